@@ -1,0 +1,5 @@
+pub mod Map
+pub mod Entry
+pub mod Answer
+pub mod PlainMap
+pub mod Fitting
