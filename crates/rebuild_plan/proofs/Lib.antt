@@ -1,0 +1,4 @@
+pub mod Rounding
+pub mod Parts
+pub mod SharesLaws
+pub mod RootLaws
