@@ -1,0 +1,9 @@
+pub mod Spans
+pub mod WordLaws
+pub mod NumberLaws
+pub mod ReadingLaws
+pub mod GrammarLaws
+pub mod ReplyLaws
+pub mod Existence
+pub mod FeedLaws
+pub mod StreamLaws

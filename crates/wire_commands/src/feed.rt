@@ -1,0 +1,136 @@
+//! Requests from bytes that come one by one.
+//!
+//! A line may have any length, and at most 82 bytes of it are kept: once so many have come, no
+//! further byte changes what the line reads as.
+ghost use Rattle.std.specs.Prelude.{◌≡◌, []};
+ghost use Rattle.wire_commands.specs.Feed.{TakesByte, TakesEnd, ReadsFor};
+
+use crate::reading::read_line;
+use crate::request::Request;
+use std::marker::Model;
+
+/// How many bytes of a line are kept: the most that it may have, a carriage return, and one that
+/// makes it too long.
+const ROOM: usize = 82;
+
+/// What has come of a line. Contracts see the bytes that are kept of it.
+#[derive(Debug, Drop)]
+pub struct Feed {
+    kept: [u8; ROOM],
+    len: usize,
+}
+
+impl Model for Feed {
+    ghost use Rattle.std.specs.Prelude.{ℕ, ◌≤◌, List, take};
+    ghost use Rattle.wire_commands.specs.Feed.{room};
+
+    ghost Value = { List ℕ };
+
+    ghost view = { λ feed. take feed.len feed.kept };
+
+    ghost invariant = { λ feed. feed.len ≤ room };
+}
+
+impl Feed {
+    /// A feed to which nothing has come.
+    pub fn new() -> Self
+        ensures { result ≡ [] }
+    {
+        Feed {
+            kept: [0; ROOM],
+            len: 0,
+        }
+    }
+
+    /// Takes the next byte, and gives the request of the line that it ends.
+    #[inline]
+    pub fn byte(&mut self, byte: u8) -> Option<Request>
+        ensures { TakesByte self.old byte result self.new }
+    {
+        if byte == b'\n' {
+            return Some(self.finish());
+        }
+        // A byte beyond the room is let go: the line is too long with it or without it.
+        if self.len < ROOM {
+            self.kept[self.len] = byte;
+            self.len += 1;
+        }
+        None
+    }
+
+    /// Takes the end of the input, and gives the request of a last line without newline, if a byte
+    /// of it has come. The feed is then as new.
+    pub fn end(&mut self) -> Option<Request>
+        ensures { TakesEnd self.old result self.new }
+    {
+        if self.len == 0 {
+            return None;
+        }
+        Some(self.finish())
+    }
+
+    /// Reads the line, and begins a new one.
+    fn finish(&mut self) -> Request
+        ensures reads { ReadsFor self.old result }
+        ensures begins { self.new ≡ [] }
+    {
+        let request = read_line(&self.kept[..self.len]);
+        self.len = 0;
+        request
+    }
+}
+
+impl Default for Feed {
+    ghost is_default = { λ feed. feed ≡ [] };
+
+    fn default() -> Self {
+        Feed::new()
+    }
+}
+
+#[cfg(test)]
+mod tests {
+    use super::*;
+    use crate::request::Reason;
+
+    const INPUT: &[u8] = b"put 1 2\r\n\nget x\nget 1";
+
+    #[test]
+    fn a_request_comes_with_its_newline_or_the_end(rt: HostRuntime) {
+        let mut feed = Feed::new();
+        for (i, &byte) in INPUT.iter().enumerate() {
+            let want = match i {
+                8 => Some(Request::Put { key: 1, value: 2 }),
+                9 => Some(Request::Bad(Reason::Empty)),
+                15 => Some(Request::Bad(Reason::Number)),
+                _ => None,
+            };
+            assert_eq!(rt; feed.byte(byte), want, "at byte {i}");
+        }
+        assert_eq!(rt; feed.end(), Some(Request::Get { key: 1 }));
+        assert_eq!(rt; feed.end(), None);
+        assert_eq!(rt; feed.byte(b'\r'), None);
+        assert_eq!(rt; feed.end(), Some(Request::Bad(Reason::Empty)));
+    }
+
+    #[test]
+    fn a_line_of_any_length_leaves_no_trace_in_the_next(rt: HostRuntime) {
+        let mut feed = Feed::default();
+        for length in [80u32, 81, 82, 83, 1_000_000] {
+            for _ in 0..length {
+                assert_eq!(rt; feed.byte(b'a'), None);
+            }
+            assert_eq!(rt; feed.byte(b'\r'), None);
+            let reason = if length == 80 {
+                Reason::Word
+            } else {
+                Reason::Long
+            };
+            assert_eq!(rt; feed.byte(b'\n'), Some(Request::Bad(reason)), "at {length}");
+        }
+        for &byte in b"quit" {
+            assert_eq!(rt; feed.byte(byte), None);
+        }
+        assert_eq!(rt; feed.byte(b'\n'), Some(Request::Quit));
+    }
+}
