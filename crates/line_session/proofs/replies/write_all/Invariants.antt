@@ -1,0 +1,15 @@
+use Rattle.std.proofs.Common.{◌≡◌, ◌++◌, ℕ, List, length}
+use Rattle.std.specs.Io.KnownBytes.{append_known}
+use Rattle.line_session.proofs.replies.write_all.Given as goal
+
+-- a front of the piece was taken, and no fault was counted
+abbrev pub invariant-loop-rest : goal.invariant-loop-rest
+invariant-loop-rest g l = record {
+  front : List ℕ;
+  split : l.piece ≡ front ++ l.rest;
+  written : g.K.Ends.written l.sink ≡ append_known (g.K.Ends.written l.initial.sink) front;
+  faults : g.K.Ends.write_faults l.sink ≡ g.K.Ends.write_faults l.initial.sink;
+}
+
+abbrev pub decreases-loop-rest : goal.decreases-loop-rest
+decreases-loop-rest g l = length l.rest

@@ -1,0 +1,5 @@
+pub mod Ends
+pub mod Session
+pub mod Asked
+pub mod Served
+pub mod Memory

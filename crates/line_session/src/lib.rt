@@ -1,0 +1,15 @@
+//! One session of the line protocol: requests from a source, replies to a sink, and an answerer between them.
+//!
+//! Whatever comes and however it is cut, the replies are those of the lines in their order, and each is handed to
+//! the sink before the next line is asked. A session takes no memory and keeps none of what it served.
+#![tactic(auto)]
+
+mod ends;
+mod memory;
+mod replies;
+mod serving;
+
+pub use ends::{Ended, Ends, Gave, Sink, Source, Took};
+pub use memory::{BytesSink, BytesSource, CountSink, SureSource};
+pub use replies::{SinkFailed, write_all};
+pub use serving::serve_one;

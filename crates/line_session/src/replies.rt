@@ -1,0 +1,76 @@
+//! One request at a time: it is asked, and its reply is handed on whole.
+ghost use Rattle.std.specs.Prelude.{◌≡◌, ◌++◌, List, [], ◌∷◌, ℕ, length, OnOk, OnErr, IsErr};
+ghost use Rattle.std.specs.Io.KnownBytes.{append_known};
+ghost use Rattle.line_session.specs.Ends.{TakesFront, Counts};
+ghost use Rattle.line_session.specs.Session.{Exchange};
+ghost use Rattle.wire_commands.specs.Replies.{line_of};
+
+use crate::{Gave, Sink};
+use map_model::{Answer, Answerer, Call};
+use std::sync::Wait;
+use wire_commands::{Reply, Request};
+
+/// The sink failed, and counted it.
+#[derive(Clone, Copy, Debug, PartialEq, Eq)]
+pub struct SinkFailed;
+
+/// Asks what a request asks, and gives the reply that tells the answer.
+pub(crate) fn reply_to<R: Wait + Copy, A: Answerer>(
+    rt: &R,
+    answerer: &mut A,
+    request: Request,
+) -> Reply
+    ensures { Exchange A.answers answerer.old request (result ∷ []) answerer.new }
+{
+    match request {
+        Request::Get { key } => match answerer.ask(rt, Call::Get { key }) {
+            Answer::Value(None) => Reply::NoValue,
+            Answer::Value(Some(value)) => Reply::Value(value),
+            _ => unreachable!(),
+        },
+        Request::Put { key, value } => match answerer.ask(rt, Call::Put { key, value }) {
+            Answer::Old(None) => Reply::New,
+            Answer::Old(Some(old)) => Reply::Old(old),
+            Answer::Full => Reply::Full,
+            Answer::Worn => Reply::Worn,
+            _ => unreachable!(),
+        },
+        Request::Remove { key } => match answerer.ask(rt, Call::Remove { key }) {
+            Answer::Old(None) => Reply::NoValue,
+            Answer::Old(Some(old)) => Reply::Old(old),
+            Answer::Worn => Reply::Worn,
+            _ => unreachable!(),
+        },
+        Request::Quit => Reply::Bye,
+        Request::Bad(reason) => Reply::Bad(reason),
+    }
+}
+
+/// Hands a piece on until the sink has taken all of it. After a failure a front of it was taken.
+pub fn write_all<K: Sink>(sink: &mut K, piece: &[u8]) -> Result<(), SinkFailed>
+    ensures ok { OnOk result (K.written sink.new ≡ append_known (K.written sink.old) piece.now) }
+    ensures err { OnErr result (TakesFront piece.now (K.written sink.old) (K.written sink.new)) }
+    ensures faults { Counts (IsErr result) (K.write_faults sink.old) (K.write_faults sink.new) }
+{
+    let mut rest = piece;
+    while !rest.is_empty() {
+        match sink.take(rest) {
+            Gave::Bytes(taken) => rest = &rest[taken..],
+            Gave::Failed => return Err(SinkFailed),
+        }
+    }
+    Ok(())
+}
+
+/// Writes a reply's line to the sink.
+pub(crate) fn write_reply<K: Sink>(sink: &mut K, reply: Reply) -> Result<(), SinkFailed>
+    ensures ok { OnOk result
+        (K.written sink.new ≡ append_known (K.written sink.old) (line_of reply)) }
+    ensures err { OnErr result
+        (TakesFront (line_of reply) (K.written sink.old) (K.written sink.new)) }
+    ensures faults { Counts (IsErr result) (K.write_faults sink.old) (K.write_faults sink.new) }
+{
+    let mut line = [0; 80];
+    let len = reply.write(&mut line);
+    write_all(sink, &line[..len])
+}

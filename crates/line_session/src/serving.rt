@@ -1,0 +1,160 @@
+//! A whole session, piece by piece.
+//!
+//! Bytes come in pieces that have nothing to do with the lines. A feed keeps what has come of a line, so a session
+//! is the same however its input is cut.
+ghost use Rattle.std.specs.Prelude.{◌≡◌, ◌<◌, ◌≤◌, [], ◌∷◌, Some};
+ghost use Rattle.line_session.specs.Ends.{HandsOut, TakesAtMost, Counts};
+ghost use Rattle.line_session.specs.Served.{Serves, Continues, Finishes, AnswersOne};
+ghost use Rattle.line_session.specs.Served.{EndsByReply, EndsWithInput};
+
+use crate::replies::{reply_to, write_reply};
+use crate::{Ended, Sink, Source, Took};
+use map_model::Answerer;
+use std::sync::Wait;
+use wire_commands::{Feed, Request};
+
+/// The most bytes of one read.
+const PIECE: usize = 4096;
+
+/// Serves one session: reads requests, asks each and writes its reply before the next, until the input ends, a line
+/// asks for the end, an end fails, or `most` bytes were taken.
+///
+/// A call takes effect where its answerer says. What follows a `quit` in the same piece was taken and is dropped.
+pub fn serve_one<R: Wait + Copy, A: Answerer, S: Source, K: Sink>(
+    rt: &R,
+    answerer: &mut A,
+    source: &mut S,
+    sink: &mut K,
+    most: u64,
+) -> Ended
+    requires { 1 ≤ most }
+    ensures session { Serves A.answers answerer.old answerer.new
+        (S.left source.old) (S.left source.new)
+        (K.written sink.old) (K.written sink.new) most result }
+
+    // A fault ends the session, and is answered only where it was counted.
+    ensures read_faults { Counts (result ≡ Ended.ReadFault)
+        (S.read_faults source.old) (S.read_faults source.new) }
+    ensures write_faults { Counts (result ≡ Ended.WriteFault)
+        (K.write_faults sink.old) (K.write_faults sink.new) }
+{
+    let mut feed = Feed::new();
+    let mut buffer = [0; PIECE];
+    let mut left = most;
+    for _ in rt.forever() {
+        if left == 0 {
+            return Ended::Limit;
+        }
+        match read_piece(source, &mut buffer, left) {
+            Took::Bytes(count) => {
+                left -= count as u64;
+                let piece = &buffer[..count];
+                if let Some(ended) = answer_piece(rt, answerer, sink, &mut feed, piece) {
+                    return ended;
+                }
+            }
+            Took::End => return answer_rest(rt, answerer, sink, &mut feed),
+            Took::Failed => return Ended::ReadFault,
+        }
+    }
+    unreachable!()
+}
+
+// Reads a piece of at most so many bytes.
+fn read_piece<S: Source>(source: &mut S, buffer: &mut [u8; PIECE], most: u64) -> Took
+    requires { 0 < most }
+    ensures bytes { HandsOut result buffer.new (S.left source.old) (S.left source.new) }
+    ensures limit { TakesAtMost result most }
+    ensures faults { Counts (result ≡ Took.Failed)
+        (S.read_faults source.old) (S.read_faults source.new) }
+{
+    let room = most.min(PIECE as u64) as usize;
+    source.read(&mut buffer[..room])
+}
+
+// Answers each request that a piece completes, until one ends the session.
+fn answer_piece<R: Wait + Copy, A: Answerer, K: Sink>(
+    rt: &R,
+    answerer: &mut A,
+    sink: &mut K,
+    feed: &mut Feed,
+    piece: &[u8],
+) -> Option<Ended>
+    ensures part { Continues A.answers answerer.old answerer.new feed.old feed.new
+        (K.written sink.old) (K.written sink.new) piece.now result }
+    ensures ends { EndsByReply result }
+    ensures faults { Counts (result ≡ Some Ended.WriteFault)
+        (K.write_faults sink.old) (K.write_faults sink.new) }
+{
+    for byte in piece {
+        if let Some(ended) = answer_byte(rt, answerer, sink, feed, *byte) {
+            return Some(ended);
+        }
+    }
+    None
+}
+
+// Answers the request that a byte completes, if it completes one.
+#[inline]
+fn answer_byte<R: Wait + Copy, A: Answerer, K: Sink>(
+    rt: &R,
+    answerer: &mut A,
+    sink: &mut K,
+    feed: &mut Feed,
+    byte: u8,
+) -> Option<Ended>
+    ensures part { Continues A.answers answerer.old answerer.new feed.old feed.new
+        (K.written sink.old) (K.written sink.new) (byte ∷ []) result }
+    ensures ends { EndsByReply result }
+    ensures faults { Counts (result ≡ Some Ended.WriteFault)
+        (K.write_faults sink.old) (K.write_faults sink.new) }
+{
+    match feed.byte(byte) {
+        Some(request) => answer(rt, answerer, sink, request),
+        None => None,
+    }
+}
+
+// Answers the line that the end of the input completes, if there is one.
+fn answer_rest<R: Wait + Copy, A: Answerer, K: Sink>(
+    rt: &R,
+    answerer: &mut A,
+    sink: &mut K,
+    feed: &mut Feed,
+) -> Ended
+    ensures whole { Finishes A.answers answerer.old answerer.new feed.old
+        (K.written sink.old) (K.written sink.new) result }
+    ensures ends { EndsWithInput result }
+    ensures faults { Counts (result ≡ Ended.WriteFault)
+        (K.write_faults sink.old) (K.write_faults sink.new) }
+{
+    match feed.end() {
+        Some(request) => answer(rt, answerer, sink, request).unwrap_or(Ended::End),
+        None => Ended::End,
+    }
+}
+
+// Answers one request, and tells whether the session ends with it.
+fn answer<R: Wait + Copy, A: Answerer, K: Sink>(
+    rt: &R,
+    answerer: &mut A,
+    sink: &mut K,
+    request: Request,
+) -> Option<Ended>
+    ensures one { AnswersOne A.answers answerer.old answerer.new request
+        (K.written sink.old) (K.written sink.new) result }
+    ensures faults { Counts (result ≡ Some Ended.WriteFault)
+        (K.write_faults sink.old) (K.write_faults sink.new) }
+{
+    let reply = reply_to(rt, answerer, request);
+    if write_reply(sink, reply).is_err() {
+        return Some(Ended::WriteFault);
+    }
+    match request {
+        Request::Quit => Some(Ended::Quit),
+        _ => None,
+    }
+}
+
+#[cfg(test)]
+mod tests;
