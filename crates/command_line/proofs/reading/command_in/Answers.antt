@@ -1,0 +1,42 @@
+use Rattle.std.proofs.Common.{◌≡◌, ◌∙◌, ℕ, List, Option, Some, ap, sym}
+use Rattle.clap.proofs.WalkLemmas.{first_value-rows}
+use Rattle.clap.specs.Words.{first_of, first_value, found_of, rows_of}
+use Rattle.clap.specs.declared.parser.matches.Found.{Found}
+use Rattle.command_line.specs.Grammar.{bytes_name, mode_name}
+use Rattle.command_line.proofs.reading.command_in.Goals as goal
+
+-- what the getter gave for a name is the text of that name's row
+row_text : (found : Found) (name : List ℕ) (given : Option (List ℕ)) → given ≡ first_value found name
+    → first_of name (rows_of found) ≡ given
+row_text found name given is = sym (first_value-rows found name) ∙ sym is
+
+pub returns-in_err-get_str-clause-none : goal.returns-in_err-get_str-clause-none
+returns-in_err-get_str-clause-none c =
+    let absent = row_text (found_of c.args.matches.now) mode_name _ c.in_err-get_str.ensures in
+    rw c.from_residual.ensures (λ command asks. let clash = sym absent ∙ asks.mode in cc)
+
+pub returns-in_err-mode-clause-none : goal.returns-in_err-mode-clause-none
+returns-in_err-mode-clause-none c =
+    let given = row_text (found_of c.args.matches.now) mode_name _ c.in_ok-get_str.ensures in
+    rw c.from_residual-in_err-mode.ensures (λ command asks.
+    let both = sym asks.mode ∙ given in c.in_err-mode.ensures.none command.mode (cc))
+
+pub returns-in_err-get_str-2-clause-none : goal.returns-in_err-get_str-2-clause-none
+returns-in_err-get_str-2-clause-none c =
+    let absent = row_text (found_of c.args.matches.now) bytes_name _ c.in_err-get_str-2.ensures in
+    rw c.from_residual-in_err-get_str-2.ensures (λ command asks. rw absent at asks.bytes)
+
+pub returns-in_err-bytes-clause-none : goal.returns-in_err-bytes-clause-none
+returns-in_err-bytes-clause-none c =
+    let given = row_text (found_of c.args.matches.now) bytes_name _ c.in_ok-get_str-2.ensures in
+    rw c.from_residual-in_err-bytes.ensures (λ command asks.
+    let number = rw given at asks.bytes in c.in_err-bytes.ensures number.0)
+
+pub returns-clause-some : goal.returns-clause-some
+returns-clause-some c =
+    let mode_given = row_text (found_of c.args.matches.now) mode_name _ c.in_ok-get_str.ensures in
+    let bytes_given = row_text (found_of c.args.matches.now) bytes_name _ c.in_ok-get_str-2.ensures in
+    record {
+      mode = mode_given ∙ ap Some (sym c.in_ok-mode.ensures.some);
+      bytes = rw bytes_given c.in_ok-bytes.ensures;
+    }

@@ -1,0 +1,54 @@
+-- Which words are taken, by clap's own meaning of one command.
+use Rattle.std.specs.Prelude.{◌≡◌, ◌∷◌, List, [], Some, true, fold, map, codes}
+use Rattle.std.specs.Borrow.{Bor}
+use Rattle.clap.specs.Walk.{Rule, Text}
+use Rattle.clap.specs.Words.{App, fault_of, new_app, new_rule, with_rule}
+
+-- the name of the one positional
+abbrev pub mode_name : Text
+mode_name = codes "mode"
+
+-- the name of the option for the most bytes of the input
+abbrev pub bytes_name : Text
+bytes_name = codes "bytes"
+
+-- each option by its name, with its default
+abbrev pub options : List (Text × Text)
+options = (bytes_name, codes "1099511627776") ∷ []
+
+-- the two texts of a row
+abbrev pub row_of : Bor Text × Bor Text → Text × Text
+row_of row = (row.0.now, row.1.now)
+
+-- the rows of a table, as texts
+abbrev pub table_of : List (Bor Text × Bor Text) → List (Text × Text)
+table_of = map row_of
+
+-- a positional that has to be there
+abbrev pub positional_rule : Text → Rule
+positional_rule name = record (new_rule name) { required = true }
+
+-- an option with one value, that has this default
+abbrev pub option_rule : Text → Text → Rule
+option_rule name default = record (new_rule name) { long = Some name; defaults = default ∷ [] }
+
+-- the command with one more option
+abbrev pub with_option : App → Text × Text → App
+with_option app option = with_rule app (option_rule option.0 option.1)
+
+-- a command of no arguments, for which no word is the program's name and none asks for help
+abbrev pub bare_app : App
+bare_app = let app = new_app (codes "xindex") in
+    record app { top = record app.top { no_binary_name = true; disable_help_flag = true } }
+
+-- the command with the mode alone
+abbrev pub mode_app : App
+mode_app = with_rule bare_app (positional_rule mode_name)
+
+-- the one command: the mode, and each option
+unfoldable pub the_app : App
+the_app = fold with_option mode_app options
+
+-- clap finds no fault with the words
+abbrev pub IsTaken : List Text → Type 0
+IsTaken words = fault_of the_app words ≡ []

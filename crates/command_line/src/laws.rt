@@ -1,0 +1,20 @@
+//! What follows from the meaning of the words, for callers to cite.
+//!
+//! Each function does nothing: its clause is the law.
+ghost use Rattle.command_line.specs.Command.{WordsDetermineTheCommand};
+ghost use Rattle.command_line.specs.Forms.{EachIsGivenOnce, PlainFormsAreCommands};
+
+/// No words ask for two commands.
+pub fn words_determine_the_command()
+    ensures { WordsDetermineTheCommand }
+{}
+
+/// The mode alone is a command, and so is the mode with a number in the bounds, before or after it.
+pub fn plain_forms_are_commands()
+    ensures { PlainFormsAreCommands }
+{}
+
+/// Words without a mode, with two modes or with an option given twice are no command.
+pub fn each_is_given_once()
+    ensures { EachIsGivenOnce }
+{}
