@@ -1,0 +1,13 @@
+//! The program as one call: words, a source and a sink in, a status out.
+//!
+//! `xindex` does all that the program does, so what is proved of it is proved of the program, but for the real
+//! streams under it, which tell no bytes.
+#![tactic(auto)]
+
+mod real;
+mod status;
+mod top;
+
+pub use real::{StandardInput, StandardOutput};
+pub use status::Status;
+pub use top::xindex;

@@ -1,0 +1,147 @@
+use super::*;
+use line_session::{BytesSink, BytesSource};
+use std::test::Fail;
+
+const SESSION: &[u8] = b"put 5 50\nget 5\nput 5 51\nremove 5\nget 5\nremove 5\n";
+
+const REPLIES: &[u8] = b"new\nvalue 50\nold 50\nold 51\nnone\nnone\n";
+
+// The program on these words and this input, from bytes to bytes.
+fn assert_writes<R: Wait + Copy + std::process::Abort>(
+    rt: &R,
+    alloc: Global,
+    words: &[&str],
+    input: &[u8],
+    output: &[u8],
+    status: Status,
+) -> Result<(), Fail> {
+    for step in [1, 4096] {
+        let mut source = BytesSource::new(alloc, input, step, &[])?;
+        let mut sink = BytesSink::new(alloc, 1000, &[])?;
+        let ended = xindex(rt, alloc, words, &mut source, &mut sink);
+        assert_eq!(rt; ended, status, "at steps of {step}");
+        assert_eq!(rt; sink.bytes(), output, "at steps of {step}");
+    }
+    Ok(())
+}
+
+#[test]
+fn a_session_writes_the_replies_of_its_lines(rt: HostRuntime) -> Result<(), Fail> {
+    let table = [
+        (b"".as_slice(), b"".as_slice()),
+        (SESSION, REPLIES),
+        (b"put 5 50\r\nget 5\r\nget 6", b"new\nvalue 50\nnone\n"),
+        (
+            b"put 0 18446744073709551615\nput 18446744073709551615 0\nget 0\nget 18446744073709551615\n",
+            b"new\nnew\nvalue 18446744073709551615\nvalue 0\n",
+        ),
+        (
+            b" get  007 \nGET 5\n\n\r\nquit x\nget 1\r\r\n",
+            b"none\nbad word\nbad empty\nbad empty\nbad count\nbad number\n",
+        ),
+        (
+            b"get 18446744073709551616\nget x\nget\nget x 1\nscan 0 9\nquit\nget 5\n",
+            b"bad range\nbad number\nbad count\nbad count\nbad word\nbye\n",
+        ),
+    ];
+    for (input, output) in table {
+        assert_writes(&rt, rt.alloc(), &["pipe"], input, output, Status::Done)?;
+    }
+    Ok(())
+}
+
+#[test]
+fn a_line_has_at_most_80_bytes_beside_its_end(rt: HostRuntime) -> Result<(), Fail> {
+    let table = [
+        (80, b"\n".as_slice(), b"bad word\n".as_slice()),
+        (81, b"\n", b"bad long\n"),
+        (80, b"\r\n", b"bad word\n"),
+        (81, b"\r\n", b"bad long\n"),
+        (80, b"", b"bad word\n"),
+        (1_000_000, b"\nget 1\n", b"bad long\nnone\n"),
+    ];
+    for (letters, end, output) in table {
+        let mut input = vec![in rt.alloc(); b'a'; letters]?;
+        input.extend_from_slice(end)?;
+        assert_writes(&rt, rt.alloc(), &["pipe"], &input, output, Status::Done)?;
+    }
+    Ok(())
+}
+
+#[test]
+fn words_that_ask_for_nothing_are_bad_usage(rt: HostRuntime) -> Result<(), Fail> {
+    let table = [
+        [].as_slice(),
+        &["frob"],
+        &["pipe", "--records", "x"],
+        &["pipe", "--bytes", "0"],
+        &["--help"],
+    ];
+    for words in table {
+        assert_writes(
+            &rt,
+            rt.alloc(),
+            words,
+            SESSION,
+            b"bad usage\n",
+            Status::Usage,
+        )?;
+    }
+    Ok(())
+}
+
+#[test]
+fn a_limit_of_bytes_ends_the_session(rt: HostRuntime) -> Result<(), Fail> {
+    let table = [
+        ("8", b"none\n".as_slice(), Status::Limit),
+        ("12", b"none\nnone\n", Status::Limit),
+        ("13", b"none\nnone\n", Status::Done),
+    ];
+    for (bytes, output, status) in table {
+        let words = ["pipe", "--bytes", bytes];
+        assert_writes(&rt, rt.alloc(), &words, b"get 5\nget 6\n", output, status)?;
+    }
+    Ok(())
+}
+
+#[test]
+fn a_fault_has_its_status_and_loses_no_reply_before_it(rt: HostRuntime) -> Result<(), Fail> {
+    let table = [
+        ("pipe", 0, 9, 100, Status::ReadFault, b"".as_slice()),
+        ("pipe", 1, 9, 100, Status::ReadFault, b"new\n"),
+        ("pipe", 9, 1, 100, Status::WriteFault, b"new\n"),
+        ("pipe", 9, 9, 12, Status::WriteFault, b"new\n"),
+        ("frob", 0, 0, 100, Status::WriteFault, b""),
+    ];
+    for (word, read, write, room, status, output) in table {
+        let mut source = BytesSource::new(rt.alloc(), SESSION, 9, &[read])?;
+        let mut sink = BytesSink::new(rt.alloc(), room, &[write])?;
+        let ended = xindex(&rt, rt.alloc(), &[word], &mut source, &mut sink);
+        assert_eq!(rt;
+            ended,
+            status,
+            "{word} with failing calls {read} and {write}"
+        );
+        assert_eq!(rt;
+            sink.bytes(),
+            output,
+            "{word} with failing calls {read} and {write}"
+        );
+    }
+    Ok(())
+}
+
+#[test]
+fn each_status_has_its_number(rt: HostRuntime) {
+    let table = [
+        (Status::Done, 0),
+        (Status::Usage, 2),
+        (Status::ReadFault, 3),
+        (Status::WriteFault, 4),
+        (Status::Memory, 6),
+        (Status::Limit, 9),
+    ];
+    for (status, number) in table {
+        assert_eq!(rt; status.number(), number, "{status:?}");
+    }
+}
