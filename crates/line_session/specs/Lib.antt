@@ -3,3 +3,4 @@ pub mod Session
 pub mod Asked
 pub mod Served
 pub mod Memory
+pub mod Laws

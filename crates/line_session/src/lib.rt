@@ -5,11 +5,13 @@
 #![tactic(auto)]
 
 mod ends;
+mod laws;
 mod memory;
 mod replies;
 mod serving;
 
 pub use ends::{Ended, Ends, Gave, Sink, Source, Took};
+pub use laws::{bytes_have_one_text, requests_have_one_text};
 pub use memory::{BytesSink, BytesSource, CountSink, SureSource};
 pub use replies::{SinkFailed, write_all};
 pub use serving::serve_one;

@@ -3,3 +3,4 @@ pub mod Entry
 pub mod Answer
 pub mod PlainMap
 pub mod Fitting
+pub mod Laws

@@ -8,9 +8,11 @@
 mod answerer;
 mod calls;
 mod entries;
+mod laws;
 mod plain_map;
 
 pub use answerer::Answerer;
 pub use calls::{Answer, Call, Near, Value};
 pub use entries::{Change, Entry};
+pub use laws::a_call_of_one_key_has_one_answer;
 pub use plain_map::{NoRoom, PlainMap};
