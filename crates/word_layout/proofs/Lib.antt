@@ -1,0 +1,5 @@
+mod Rules
+mod NamedAddresses
+pub mod WordNames
+pub mod RowPlaces
+pub mod SameWords

@@ -1,0 +1,71 @@
+-- When two names are of one word.
+use Rattle.std.proofs.Common.{◌≡◌, ◌≢◌, Bool, true, false, ◌&&◌, refl, sym, ap, ◌∙◌, eq-eqb}
+use Rattle.std.specs.Prelude.{◌==◌}
+use Rattle.std.proofs.lemmas.Bool.{eqb-true}
+use Rattle.word_layout.specs.declared.headers.HeaderWord.{HeaderWord}
+use Rattle.word_layout.specs.declared.places.Part.{Part}
+use Rattle.word_layout.specs.Headers.{number_of, header_word, same_header_word}
+use Rattle.word_layout.specs.Places.{part_offset, part_at, same_part}
+use Rattle.word_layout.proofs.WordNames.{part_at-part_offset, header_word-number_of}
+use Rattle.word_layout.specs.Words.{Word, FreeHead, Root, Epoch, SlotPivot, SlotGroup, Header, PlaceWord, same_word}
+
+both : (x y : Bool) → x ≡ true → y ≡ true → (x && y) ≡ true
+both x y e f = rw (e, f) refl
+
+-- a word is itself
+pub same_word-refl : (w : Word) → same_word w w ≡ true
+same_word-refl FreeHead = refl
+same_word-refl Root = refl
+same_word-refl (Epoch c) = eq-eqb c c refl
+same_word-refl (SlotPivot s i) = both (s == s) (i == i) (eq-eqb s s refl) (eq-eqb i i refl)
+same_word-refl (SlotGroup s i) = both (s == s) (i == i) (eq-eqb s s refl) (eq-eqb i i refl)
+same_word-refl (Header g h) =
+    both (g == g) (same_header_word h h) (eq-eqb g g refl) (eq-eqb (number_of h) (number_of h) refl)
+same_word-refl (PlaceWord p a) =
+    both (p == p) (same_part a a) (eq-eqb p p refl) (eq-eqb (part_offset a) (part_offset a) refl)
+
+and-true : (x y : Bool) → (x && y) ≡ true → (x ≡ true) × (y ≡ true)
+and-true true y h = (refl, h)
+and-true false y h = absurd cc
+
+header_word_of : (h k : HeaderWord) → number_of h ≡ number_of k → h ≡ k
+header_word_of h k e =
+    sym (header_word-number_of h) ∙ ap header_word e ∙ header_word-number_of k
+
+part_of_offset : (a b : Part) → part_offset a ≡ part_offset b → a ≡ b
+part_of_offset a b e = sym (part_at-part_offset a) ∙ ap part_at e ∙ part_at-part_offset b
+
+-- where the test passes, the two names are one
+pub same_word-true : (w v : Word) → same_word w v ≡ true → w ≡ v
+same_word-true FreeHead FreeHead h = refl
+same_word-true Root Root h = refl
+same_word-true (Epoch c) (Epoch d) h = ap Epoch (eqb-true c d h)
+same_word-true (SlotPivot s i) (SlotPivot r j) h =
+    let parts = and-true (s == r) (i == j) h in
+    let side = eqb-true s r parts.0 in
+    let slot = eqb-true i j parts.1 in
+    cc
+same_word-true (SlotGroup s i) (SlotGroup r j) h =
+    let parts = and-true (s == r) (i == j) h in
+    let side = eqb-true s r parts.0 in
+    let slot = eqb-true i j parts.1 in
+    cc
+same_word-true (Header g h) (Header f k) e =
+    let parts = and-true (g == f) (same_header_word h k) e in
+    let group = eqb-true g f parts.0 in
+    let word = header_word_of h k (eqb-true (number_of h) (number_of k) parts.1) in
+    cc
+same_word-true (PlaceWord p a) (PlaceWord q b) e =
+    let parts = and-true (p == q) (same_part a b) e in
+    let place = eqb-true p q parts.0 in
+    let part = part_of_offset a b (eqb-true (part_offset a) (part_offset b) parts.1) in
+    cc
+same_word-true w v h = absurd cc
+
+-- where the two names differ, the test fails
+pub other_word : (w v : Word) → w ≢ v → same_word w v ≡ false
+other_word w v differ = by_test (same_word w v) refl
+  where
+    by_test : (b : Bool) → same_word w v ≡ b → same_word w v ≡ false
+    by_test true e = absurd (differ (same_word-true w v e))
+    by_test false e = e

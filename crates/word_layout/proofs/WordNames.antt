@@ -1,0 +1,303 @@
+-- The name of the word at an address, and that it is the word whose address that is.
+use Rattle.std.proofs.Common.{◌≡◌, ◌∙◌, ⊎_elim, ℕ, ◌+◌, ◌-◌, ◌*◌, ◌/◌, ◌%◌, ◌<◌, ◌≤◌, length, refl, sym, ap, arith, zero, suc, get_or-set_other, get_or-set_same}
+use Rattle.std.specs.Prelude.{nat_lt, if◌then◌else◌}
+use Rattle.std.proofs.lemmas.Bool.{lt-ltb, le-ltb}
+use Rattle.std.proofs.lemmas.Nat.{div-mul-add, mod-mul-add, mul-add-lt}
+use Rattle.word_layout.specs.declared.limits.Limits.{Limits}
+use Rattle.word_layout.specs.Limits.{group_words_of, word_count}
+use Rattle.word_layout.specs.Addresses.{first_slot_word, first_group_word, first_row_word}
+use Rattle.word_layout.specs.declared.headers.HeaderWord.{HeaderWord}
+use Rattle.word_layout.specs.declared.headers.HeaderWord.TheVariants.{Pivot, Size, LineError, BufferHead, Phase, Next, FirstSpare, SecondSpare}
+use Rattle.word_layout.specs.declared.places.Part.{Part}
+use Rattle.word_layout.specs.declared.places.Part.TheVariants.{Key, Value, State, Link}
+use Rattle.word_layout.specs.Addresses.{array_address}
+use Rattle.word_layout.specs.Headers.{number_of, header_word}
+use Rattle.word_layout.specs.Places.{IsArrayPlace, IsRow, IsWordOf, part_at, part_of, part_offset, part_address}
+use Rattle.word_layout.specs.WordAt.{head_at, slot_at, group_at, row_at, word_at}
+use Rattle.word_layout.specs.Words.{Word, FreeHead, Root, Epoch, SlotPivot, SlotGroup, Header, PlaceWord, IsWord, address_of, StandApart, StoresByName}
+use Rattle.word_layout.proofs.NamedAddresses.{named_address}
+
+-- ---- which part of the table an address is in ----
+
+-- a choice by a test of order
+first_of_two : (A : Type 0) (a b : ℕ) (x y : A) → a < b → (if nat_lt a b then x else y) ≡ x
+first_of_two A a b x y h = rw (lt-ltb a b h)
+
+second_of_two : (A : Type 0) (a b : ℕ) (x y : A) → b ≤ a → (if nat_lt a b then x else y) ≡ y
+second_of_two A a b x y h = rw (le-ltb a b h)
+
+in_heads : (l : Limits) (a : ℕ) → a < first_slot_word l → word_at l a ≡ head_at a
+unfolding word_at
+in_heads l a h = first_of_two Word a (first_slot_word l) _ _ h
+
+in_slots : (l : Limits) (k : ℕ) → k < 4 * l.slots →
+    word_at l (first_slot_word l + k) ≡ slot_at (2 * l.slots) k
+unfolding word_at
+in_slots l k h =
+    let same : first_slot_word l + k - first_slot_word l ≡ k = omega arith in
+    second_of_two Word (first_slot_word l + k) (first_slot_word l) _ _ (omega arith)
+    ∙ first_of_two Word (first_slot_word l + k) (first_group_word l) _ _ (omega arith)
+    ∙ ap (slot_at (2 * l.slots)) same
+
+in_groups : (l : Limits) (k : ℕ) → k < l.groups * group_words_of l →
+    word_at l (first_group_word l + k) ≡ group_at (first_group_word l) (group_words_of l) k
+unfolding word_at
+in_groups l k h =
+    let same : first_group_word l + k - first_group_word l ≡ k = omega arith in
+    second_of_two Word (first_group_word l + k) (first_slot_word l) _ _ (omega arith)
+    ∙ second_of_two Word (first_group_word l + k) (first_group_word l) _ _ (omega arith)
+    ∙ first_of_two Word (first_group_word l + k) (first_row_word l) _ _ (omega arith)
+    ∙ ap (group_at (first_group_word l) (group_words_of l)) same
+
+in_rows : (l : Limits) (k : ℕ) → word_at l (first_row_word l + k) ≡ row_at (first_row_word l) k
+unfolding word_at
+in_rows l k =
+    let same : first_row_word l + k - first_row_word l ≡ k = omega arith in
+    second_of_two Word (first_row_word l + k) (first_slot_word l) _ _ (omega arith)
+    ∙ second_of_two Word (first_row_word l + k) (first_group_word l) _ _ (omega arith)
+    ∙ second_of_two Word (first_row_word l + k) (first_row_word l) _ _ (omega arith)
+    ∙ ap (row_at (first_row_word l)) same
+
+-- ---- each part by its quotient and remainder ----
+
+pub part_offset-below : (part : Part) → part_offset part < 4
+part_offset-below Key = omega arith
+part_offset-below Value = omega arith
+part_offset-below State = omega arith
+part_offset-below Link = omega arith
+
+pub part_at-part_offset : (part : Part) → part_at (part_offset part) ≡ part
+part_at-part_offset Key = refl
+part_at-part_offset Value = refl
+part_at-part_offset State = refl
+part_at-part_offset Link = refl
+
+-- a word of a place is that of one of its parts
+pub part_address-part_of : (place address : ℕ) → IsWordOf place address →
+    part_address place (part_of place address) ≡ address
+part_address-part_of place address within =
+    by_offset (address - place) refl
+  where
+    by_offset : (k : ℕ) → address - place ≡ k → place + part_offset (part_at k) ≡ address
+    by_offset zero e = let low = within.0 in omega arith
+    by_offset (suc zero) e = omega arith
+    by_offset (suc (suc zero)) e = omega arith
+    by_offset (suc (suc (suc k))) e = let high = within.1 in omega arith
+
+slot_at-pivot : (width side i : ℕ) → 2 * i < width →
+    slot_at width (side * width + 2 * i) ≡ SlotPivot side i
+slot_at-pivot width side i h =
+    let quotient = div-mul-add side width (2 * i) h in
+    let rest = mod-mul-add side width (2 * i) h in
+    let slot : 2 * i / 2 ≡ i = omega arith in
+    let word : 2 * i % 2 ≡ 0 = omega arith in
+    rw (quotient, rest, slot, word)
+
+slot_at-group : (width side i : ℕ) → 2 * i + 1 < width →
+    slot_at width (side * width + (2 * i + 1)) ≡ SlotGroup side i
+slot_at-group width side i h =
+    let quotient = div-mul-add side width (2 * i + 1) h in
+    let rest = mod-mul-add side width (2 * i + 1) h in
+    let slot : (2 * i + 1) / 2 ≡ i = omega arith in
+    let word : (2 * i + 1) % 2 ≡ 1 = omega arith in
+    rw (quotient, rest, slot, word)
+
+pub header_word-number_of : (word : HeaderWord) → header_word (number_of word) ≡ word
+header_word-number_of Pivot = refl
+header_word-number_of Size = refl
+header_word-number_of LineError = refl
+header_word-number_of BufferHead = refl
+header_word-number_of Phase = refl
+header_word-number_of Next = refl
+header_word-number_of FirstSpare = refl
+header_word-number_of SecondSpare = refl
+
+number_of-below : (word : HeaderWord) → number_of word < 8
+number_of-below Pivot = omega arith
+number_of-below Size = omega arith
+number_of-below LineError = omega arith
+number_of-below BufferHead = omega arith
+number_of-below Phase = omega arith
+number_of-below Next = omega arith
+number_of-below FirstSpare = omega arith
+number_of-below SecondSpare = omega arith
+
+group_at-header : (start width group : ℕ) (word : HeaderWord) → number_of word < width →
+    group_at start width (group * width + number_of word) ≡ Header group word
+group_at-header start width group word h =
+    rw (div-mul-add group width (number_of word) h, mod-mul-add group width (number_of word) h)
+    (first_of_two Word (number_of word) 8 _ _ (number_of-below word)
+    ∙ ap (Header group) (header_word-number_of word))
+
+-- a place that is whole words of four behind a start, and a part of it
+same_place : (start k offset : ℕ) → k % 4 ≡ 0 → offset < 4 →
+    start + 4 * ((k + offset) / 4) ≡ start + k
+same_place start k offset whole below = omega arith
+
+same_offset : (k offset : ℕ) → k % 4 ≡ 0 → offset < 4 → (k + offset) % 4 ≡ offset
+same_offset k offset whole below = omega arith
+
+place_part : (start k : ℕ) (part : Part) → k % 4 ≡ 0 →
+    PlaceWord (start + 4 * ((k + part_offset part) / 4)) (part_at ((k + part_offset part) % 4))
+    ≡ PlaceWord (start + k) part
+place_part start k part whole =
+    rw (
+      same_place start k (part_offset part) whole (part_offset-below part),
+      same_offset k (part_offset part) whole (part_offset-below part),
+      part_at-part_offset part,
+    )
+
+group_at-array : (start width group k : ℕ) (part : Part) → k % 4 ≡ 0 →
+    8 + (k + part_offset part) < width →
+    group_at start width (group * width + (8 + (k + part_offset part)))
+    ≡ PlaceWord (start + group * width + (8 + k)) part
+group_at-array start width group k part whole h =
+    let behind : ℕ = k + part_offset part in
+    let same : 8 + behind - 8 ≡ behind = omega arith in
+    let from : ℕ = start + group * width in
+    let moved : from + (8 + 4 * (behind / 4)) ≡ from + 8 + 4 * (behind / 4) = omega arith in
+    let back : from + 8 + k ≡ from + (8 + k) = omega arith in
+    rw (div-mul-add group width (8 + behind) h, mod-mul-add group width (8 + behind) h)
+    (second_of_two Word (8 + behind) 8 _ _ (omega arith)
+    ∙ rw (same, moved) (place_part (from + 8) k part whole ∙ ap (λ (p : ℕ). PlaceWord p part) back))
+
+-- ---- the laws ----
+
+-- the part of a row, and of a place of an array
+at_row : (l : Limits) (place : ℕ) (part : Part) → IsRow l place →
+    word_at l (place + part_offset part) ≡ PlaceWord place part
+at_row l place part row =
+    let k = place - first_row_word l in
+    let same : place + part_offset part ≡ first_row_word l + (k + part_offset part) =
+    omega (arith, row.0)
+    in
+    let back : first_row_word l + k ≡ place = omega (arith, row.0) in
+    ap (word_at l) same
+    ∙ in_rows l (k + part_offset part)
+    ∙ place_part (first_row_word l) k part row.2
+    ∙ ap (λ (p : ℕ). PlaceWord p part) back
+
+pub array_inside : (l : Limits) (group place offset : ℕ) → group < l.groups →
+    IsArrayPlace l group place → offset < 4 →
+    let k = place - array_address l group 0 in
+    (8 + (k + offset) < group_words_of l)
+    × (group * group_words_of l + (8 + (k + offset)) < l.groups * group_words_of l)
+    × (place ≡ first_group_word l + group * group_words_of l + (8 + k))
+array_inside l group place offset known array below =
+    let k = place - array_address l group 0 in
+    let low = array.0 in
+    let high = array.1 in
+    let whole = array.2 in
+    let fits : 8 + (k + offset) < group_words_of l = omega arith in (
+      fits,
+      omega (arith, mul-add-lt group (group_words_of l) (8 + (k + offset)) l.groups known fits),
+      omega arith,
+    )
+
+at_array : (l : Limits) (group place : ℕ) (part : Part) → group < l.groups →
+    IsArrayPlace l group place → word_at l (place + part_offset part) ≡ PlaceWord place part
+at_array l group place part known array =
+    let width = group_words_of l in
+    let k = place - array_address l group 0 in
+    let offset = part_offset part in
+    let inside = array_inside l group place offset known array (part_offset-below part) in
+    let behind : ℕ = group * width + (8 + (k + part_offset part)) in
+    let is = inside.2 in
+    let same : place + part_offset part ≡ first_group_word l + behind = omega arith in
+    ap (word_at l) same
+    ∙ in_groups l behind inside.1
+    ∙ group_at-array (first_group_word l) width group k part array.2 inside.0
+    ∙ ap (λ (p : ℕ). PlaceWord p part) (sym is)
+
+-- the word that stands at a word's address is that word
+pub word_at-address_of : (l : Limits) (w : Word) → IsWord l w → word_at l (address_of l w) ≡ w
+word_at-address_of l FreeHead h = in_heads l 0 (omega arith)
+word_at-address_of l Root h = in_heads l 1 (omega arith)
+word_at-address_of l (Epoch caller) h =
+    let same : 2 + caller ≡ suc (suc caller) = omega arith in
+    ap (word_at l) same ∙ in_heads l (suc (suc caller)) (omega arith)
+word_at-address_of l (SlotPivot side i) h =
+    let same : address_of l (SlotPivot side i)
+    ≡ first_slot_word l + (side * (2 * l.slots) + 2 * i) = omega arith
+    in
+    let fits : 2 * i < 2 * l.slots = omega arith in
+    let inside = mul-add-lt side (2 * l.slots) (2 * i) 2 h.0 fits in
+    ap (word_at l) same
+    ∙ in_slots l (side * (2 * l.slots) + 2 * i) (omega (arith, inside))
+    ∙ slot_at-pivot (2 * l.slots) side i fits
+word_at-address_of l (SlotGroup side i) h =
+    let same : address_of l (SlotGroup side i)
+    ≡ first_slot_word l + (side * (2 * l.slots) + (2 * i + 1)) = omega arith
+    in
+    let fits : 2 * i + 1 < 2 * l.slots = omega arith in
+    let inside = mul-add-lt side (2 * l.slots) (2 * i + 1) 2 h.0 fits in
+    ap (word_at l) same
+    ∙ in_slots l (side * (2 * l.slots) + (2 * i + 1)) (omega (arith, inside))
+    ∙ slot_at-group (2 * l.slots) side i fits
+word_at-address_of l (Header group word) h =
+    let width = group_words_of l in
+    let i = number_of word in
+    let same : address_of l (Header group word) ≡ first_group_word l + (group * width + i) =
+    omega arith
+    in
+    let fits : i < width = omega (arith, number_of-below word) in
+    let inside = mul-add-lt group width i l.groups h fits in
+    ap (word_at l) same
+    ∙ in_groups l (group * width + i) (omega (arith, inside))
+    ∙ group_at-header (first_group_word l) width group word fits
+word_at-address_of l (PlaceWord place part) h =
+    ⊎_elim (λ row. at_row l place part row)
+    (λ array. at_array l array.0 place part array.1 array.2)
+    h
+
+row_within : (l : Limits) (place offset : ℕ) → IsRow l place → offset < 4 →
+    place + offset < word_count l
+row_within l place offset row below =
+    let low = row.0 in let high = row.1 in let whole = row.2 in omega arith
+
+-- each word stands in the table
+pub address_of-within : (l : Limits) (w : Word) → IsWord l w → address_of l w < word_count l
+address_of-within l FreeHead h = omega arith
+address_of-within l Root h = omega arith
+address_of-within l (Epoch caller) h = omega arith
+address_of-within l (SlotPivot side i) h =
+    omega (arith, mul-add-lt side (2 * l.slots) (2 * i) 2 h.0 (omega arith))
+address_of-within l (SlotGroup side i) h =
+    omega (arith, mul-add-lt side (2 * l.slots) (2 * i + 1) 2 h.0 (omega arith))
+address_of-within l (Header group word) h =
+    let i = number_of word in
+    let fits : i < group_words_of l = omega (arith, number_of-below word) in
+    omega (arith, mul-add-lt group (group_words_of l) i l.groups h fits)
+address_of-within l (PlaceWord place part) h =
+    let below = part_offset-below part in
+    ⊎_elim (λ row. row_within l place (part_offset part) row below)
+    (λ array. let inside = array_inside l array.0 place (part_offset part) array.1 array.2 below in
+    let bound = inside.1 in let is = inside.2 in omega arith)
+    h
+
+-- two words with one address are one word, since the address names it
+address_of-apart : (l : Limits) (w v : Word) → IsWord l w → IsWord l v →
+    address_of l w ≡ address_of l v → w ≡ v
+address_of-apart l w v known_w known_v same =
+    sym (word_at-address_of l w known_w) ∙ ap (word_at l) same ∙ word_at-address_of l v known_v
+
+pub stand_apart : (l : Limits) → StandApart l
+stand_apart l =
+    record {
+      within = address_of-within l;
+      apart = address_of-apart l;
+      named = named_address l;
+    }
+
+pub stores_by_name : (l : Limits) → StoresByName l
+stores_by_name l =
+    record {
+      stored = λ words w value whole known.
+          let inside : address_of l w < length words =
+          omega (arith, whole, address_of-within l w known)
+          in
+          get_or-set_same words (address_of l w) value 0 inside;
+      kept = λ words w v value known_w known_v other.
+          get_or-set_other words (address_of l w) (address_of l v) value 0
+          (λ same. other (address_of-apart l w v known_w known_v (sym same)));
+    }

@@ -1,0 +1,10 @@
+pub mod Limits
+pub mod Addresses
+pub mod Layout
+pub mod Headers
+pub mod Places
+pub mod Root
+pub mod Words
+pub mod WordAt
+pub mod State
+pub mod Phase

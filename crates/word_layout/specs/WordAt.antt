@@ -1,0 +1,46 @@
+-- The name of the word at an address.
+use Rattle.std.specs.Prelude.{ℕ, zero, suc, ◌+◌, ◌-◌, ◌*◌, ◌/◌, ◌%◌, nat_lt, if◌then◌else◌}
+use Rattle.word_layout.specs.declared.limits.Limits.{Limits}
+use Rattle.word_layout.specs.Limits.{group_words_of}
+use Rattle.word_layout.specs.Addresses.{first_slot_word, first_group_word, first_row_word}
+use Rattle.word_layout.specs.Headers.{header_word}
+use Rattle.word_layout.specs.Places.{part_at}
+use Rattle.word_layout.specs.Words.{Word, FreeHead, Root, Epoch, SlotPivot, SlotGroup, Header, PlaceWord}
+
+-- the word so far behind the start of the table, before the root
+abbrev pub head_at : ℕ → Word
+head_at zero = FreeHead
+head_at (suc zero) = Root
+head_at (suc (suc caller)) = Epoch caller
+
+-- the first or the second word of a slot
+abbrev pub slot_word : ℕ → ℕ → ℕ → Word
+slot_word side i zero = SlotPivot side i
+slot_word side i (suc _) = SlotGroup side i
+
+-- the word so far behind the start of the root, whose sides have so many words
+abbrev pub slot_at : ℕ → ℕ → Word
+slot_at width k = slot_word (k / width) (k % width / 2) (k % width % 2)
+
+-- the word so far behind the start of a group, which begins at this address
+abbrev pub in_group : ℕ → ℕ → ℕ → Word
+in_group group from r =
+    if nat_lt r 8 then Header group (header_word r)
+    else PlaceWord (from + (8 + 4 * ((r - 8) / 4))) (part_at ((r - 8) % 4))
+
+-- the word so far behind the start of the groups, each of which has so many words
+abbrev pub group_at : ℕ → ℕ → ℕ → Word
+group_at start width k = in_group (k / width) (start + k / width * width) (k % width)
+
+-- the word so far behind the start of the record rows
+abbrev pub row_at : ℕ → ℕ → Word
+row_at start k = PlaceWord (start + 4 * (k / 4)) (part_at (k % 4))
+
+-- the word that stands at an address
+unfoldable pub word_at : Limits → ℕ → Word
+word_at l a =
+    if nat_lt a (first_slot_word l) then head_at a
+    else (if nat_lt a (first_group_word l) then slot_at (2 * l.slots) (a - first_slot_word l)
+    else (if nat_lt a (first_row_word l)
+    then group_at (first_group_word l) (group_words_of l) (a - first_group_word l)
+    else row_at (first_row_word l) (a - first_row_word l)))

@@ -1,0 +1,64 @@
+//! The words of a group's header, which stand before its array.
+ghost use Rattle.std.specs.Prelude.{◌≡◌};
+ghost use Rattle.word_layout.specs.Headers.{number_of};
+
+/// What a word of a group's header holds.
+#[derive(Clone, Copy, Debug, PartialEq, Eq)]
+pub enum HeaderWord {
+    /// The least key of the group's key range.
+    Pivot,
+    /// The number of records in the array.
+    Size,
+    /// The greatest error of the line through the array's keys.
+    LineError,
+    /// The place of the first row of the delta buffer, or 0.
+    BufferHead,
+    /// A [`Phase`](crate::Phase).
+    Phase,
+    /// The number of the next group plus 1, or 0 behind the last.
+    Next,
+    /// Not in use, and 0.
+    FirstSpare,
+    /// Not in use, and 0.
+    SecondSpare,
+}
+
+impl HeaderWord {
+    /// Its number among the words of a header, from 0, as [`Layout::header`](crate::Layout::header)
+    /// counts them.
+    #[inline]
+    pub fn number(self) -> u32
+        ensures { result ≡ number_of self }
+    {
+        match self {
+            HeaderWord::Pivot => 0,
+            HeaderWord::Size => 1,
+            HeaderWord::LineError => 2,
+            HeaderWord::BufferHead => 3,
+            HeaderWord::Phase => 4,
+            HeaderWord::Next => 5,
+            HeaderWord::FirstSpare => 6,
+            HeaderWord::SecondSpare => 7,
+        }
+    }
+}
+
+#[cfg(test)]
+mod tests {
+    use super::*;
+
+    #[test]
+    fn the_words_of_a_header_count_from_its_pivot(rt: HostRuntime) {
+        let words = [
+            HeaderWord::Pivot,
+            HeaderWord::Size,
+            HeaderWord::LineError,
+            HeaderWord::BufferHead,
+            HeaderWord::Phase,
+            HeaderWord::Next,
+            HeaderWord::FirstSpare,
+            HeaderWord::SecondSpare,
+        ];
+        assert_eq!(rt; words.map(|word| word.number()), [0, 1, 2, 3, 4, 5, 6, 7]);
+    }
+}

@@ -1,0 +1,296 @@
+//! The sizes of an index, and the rules that they must keep before a table is laid out.
+//!
+//! A rule has a number, and a refusal names the first rule that is broken.
+ghost use Rattle.std.specs.Prelude.{◌≡◌, ◌↔◌, IsOk, IfOk, IfErr, IfSome, IfNone, position, not};
+ghost use Rattle.word_layout.specs.Limits.{KeepsRules, IsFirstBroken, is_within, rules, word_count};
+
+use crate::layout::Layout;
+
+/// How many of each part a table has, and the counts by which the keeper works.
+#[derive(Clone, Copy, Debug, PartialEq, Eq)]
+pub struct Limits {
+    /// Rule 1: how many threads call at once, 1 to 64.
+    pub callers: u32,
+    /// Rule 2: the record rows of all buffers together, 2 to 16,777,216.
+    pub records: u32,
+    /// Rule 3: the group rows, 2 to 65,536.
+    pub groups: u32,
+    /// Rule 4: the places of a group's array, 8 to 1,024.
+    pub group_size: u32,
+    /// Rule 5: the slots of each side of the root, 1 to 4,096.
+    pub slots: u32,
+    /// Rule 6: the rows of a buffer from which on its group is rebuilt, 1 to `group_size`.
+    pub due: u32,
+    /// Rule 7: the calls between two helping turns, 1 to 1,048,576.
+    pub help: u32,
+    /// Rule 8: the installs from which on a new root is built, 1 to 4,096.
+    pub chain: u32,
+    /// Rule 9: the version of a new record, 0 to 1,152,921,504,606,846,975.
+    pub first_version: u64,
+}
+
+/// The first rule that limits break. Rule 10 is that the table has at most 268,435,456 words.
+#[derive(Clone, Copy, Debug, PartialEq, Eq)]
+pub struct BadLimit {
+    pub number: u32,
+}
+
+impl Limits {
+    ghost use Rattle.word_layout.specs.Layout.{limits_of};
+
+    /// The limits that an index has where none are named. Their table has 527,366 words.
+    pub fn standard() -> Limits
+        ensures kept { KeepsRules result }
+        ensures value { result ≡ record {
+          callers = 4;
+          records = 65536;
+          groups = 256;
+          group_size = 256;
+          slots = 256;
+          due = 64;
+          help = 64;
+          chain = 16;
+          first_version = 0;
+        } }
+    {
+        Limits {
+            callers: 4,
+            records: 65536,
+            groups: 256,
+            group_size: 256,
+            slots: 256,
+            due: 64,
+            help: 64,
+            chain: 16,
+            first_version: 0,
+        }
+    }
+
+    /// Where the words of a table with these limits stand.
+    pub fn layout(&self) -> Result<Layout, BadLimit>
+        ensures accepts { IsOk result ↔ KeepsRules self.now }
+        ensures limits { IfOk result (λ layout. limits_of layout ≡ self.now) }
+        ensures refuses { IfErr result (λ bad. IsFirstBroken self.now bad.number) }
+    {
+        match self.first_broken_rule() {
+            Some(number) => Err(BadLimit { number }),
+            None => Ok(Layout::new(*self)),
+        }
+    }
+
+    /// The number of the first rule that is broken.
+    fn first_broken_rule(&self) -> Option<u32>
+        ensures broken { IfSome result (IsFirstBroken self.now) }
+        ensures all_kept { IfNone result (KeepsRules self.now) }
+    {
+        let at = first_false(&self.rules())?;
+        Some(at as u32 + 1)
+    }
+
+    // Whether each rule is kept, in the order of their numbers.
+    fn rules(&self) -> [bool; 10]
+        ensures { result ≡ rules self.now }
+    {
+        [
+            is_within(1, self.callers, 64),
+            is_within(2, self.records, 16777216),
+            is_within(2, self.groups, 65536),
+            is_within(8, self.group_size, 1024),
+            is_within(1, self.slots, 4096),
+            is_within(1, self.due, self.group_size),
+            is_within(1, self.help, 1048576),
+            is_within(1, self.chain, 4096),
+            self.first_version <= 1152921504606846975,
+            self.word_count() <= 268435456,
+        ]
+    }
+
+    // The products do not fit 64 bits at the greatest numbers, which no rule has excluded yet.
+    fn word_count(&self) -> u128
+        ensures { result ≡ word_count self.now }
+    {
+        let group_words = 8 + 4 * u128::from(self.group_size);
+        2 + u128::from(self.callers)
+            + 4 * u128::from(self.slots)
+            + u128::from(self.groups) * group_words
+            + 4 * u128::from(self.records)
+    }
+}
+
+fn is_within(least: u32, value: u32, most: u32) -> bool
+    ensures { result ≡ is_within least value most }
+{
+    least <= value && value <= most
+}
+
+fn first_false(tests: &[bool]) -> Option<usize>
+    ensures { result ≡ position (λ test. not test) tests.now }
+{
+    tests.iter().position(|test| !*test)
+}
+
+#[cfg(test)]
+mod tests {
+    use super::*;
+
+    #[test]
+    fn the_standard_limits_make_a_table_of_known_size(rt: HostRuntime) {
+        let words = Limits::standard().layout().map(|layout| layout.words());
+        assert_eq!(rt; words, Ok(527366));
+    }
+
+    #[test]
+    fn the_first_rule_that_is_broken_is_named(rt: HostRuntime) {
+        let good = Limits::standard();
+        let table = [
+            (1, Limits { callers: 0, ..good }),
+            (
+                1,
+                Limits {
+                    callers: 65,
+                    ..good
+                },
+            ),
+            (2, Limits { records: 1, ..good }),
+            (
+                2,
+                Limits {
+                    records: 16777217,
+                    ..good
+                },
+            ),
+            (3, Limits { groups: 1, ..good }),
+            (
+                3,
+                Limits {
+                    groups: 65537,
+                    ..good
+                },
+            ),
+            (
+                4,
+                Limits {
+                    group_size: 7,
+                    ..good
+                },
+            ),
+            (
+                4,
+                Limits {
+                    group_size: 1025,
+                    ..good
+                },
+            ),
+            (5, Limits { slots: 0, ..good }),
+            (
+                5,
+                Limits {
+                    slots: 4097,
+                    ..good
+                },
+            ),
+            (6, Limits { due: 0, ..good }),
+            (6, Limits { due: 257, ..good }),
+            (7, Limits { help: 0, ..good }),
+            (
+                7,
+                Limits {
+                    help: 1048577,
+                    ..good
+                },
+            ),
+            (8, Limits { chain: 0, ..good }),
+            (
+                8,
+                Limits {
+                    chain: 4097,
+                    ..good
+                },
+            ),
+            (
+                9,
+                Limits {
+                    first_version: 1152921504606846976,
+                    ..good
+                },
+            ),
+            (
+                10,
+                Limits {
+                    groups: 65536,
+                    group_size: 1024,
+                    ..good
+                },
+            ),
+            (
+                3,
+                Limits {
+                    groups: u32::MAX,
+                    group_size: u32::MAX,
+                    slots: 0,
+                    ..good
+                },
+            ),
+            (
+                2,
+                Limits {
+                    records: 0,
+                    due: 0,
+                    chain: 0,
+                    ..good
+                },
+            ),
+        ];
+        for (number, limits) in table {
+            let layout = limits.layout();
+            assert_eq!(rt;
+                layout.map(|layout| layout.words()),
+                Err(BadLimit { number })
+            );
+        }
+    }
+
+    #[test]
+    fn limits_at_the_ends_of_their_ranges_are_taken(rt: HostRuntime) {
+        let good = Limits::standard();
+        let table = [
+            (527363, Limits { callers: 1, ..good }),
+            (
+                527426,
+                Limits {
+                    callers: 64,
+                    ..good
+                },
+            ),
+            (265230, Limits { records: 2, ..good }),
+            (
+                67374086,
+                Limits {
+                    records: 16777216,
+                    ..good
+                },
+            ),
+            (265238, Limits { groups: 2, ..good }),
+            (526346, Limits { slots: 1, ..good }),
+            (
+                542726,
+                Limits {
+                    slots: 4096,
+                    ..good
+                },
+            ),
+            (527366, Limits { due: 256, ..good }),
+            (
+                527366,
+                Limits {
+                    first_version: 1152921504606846975,
+                    ..good
+                },
+            ),
+        ];
+        for (words, limits) in table {
+            let layout = limits.layout();
+            assert_eq!(rt; layout.map(|layout| layout.words()), Ok(words));
+        }
+    }
+}

@@ -1,0 +1,124 @@
+//! The state word of a record: its version lock, or where the record has gone.
+//!
+//! Every state has one word, and a word that is none of these is no state.
+ghost use Rattle.std.specs.Prelude.{◌≡◌, IfSome};
+ghost use Rattle.word_layout.specs.State.{word_of_state, IsWritableState};
+
+/// What the state word of a record says.
+#[derive(Clone, Copy, Debug, PartialEq, Eq)]
+pub enum State {
+    /// The record stands here. Each write raises the version by one, and while it is `locked` its
+    /// holder writes the value. A `removed` record is a tombstone: its key is not in the map.
+    Direct {
+        version: u64,
+        locked: bool,
+        removed: bool,
+    },
+    /// A forwarding pointer: until it is copied, the record is the one at this place of an old
+    /// group.
+    Redirect {
+        place: u32,
+    },
+    /// The record was copied to a new group, and this old place is used up.
+    Moved,
+}
+
+impl State {
+    /// The word that is stored for this state.
+    #[inline]
+    pub fn word(&self) -> u64
+        requires { IsWritableState self.now }
+        ensures { result ≡ word_of_state self.now }
+    {
+        match *self {
+            State::Direct {
+                version,
+                locked,
+                removed,
+            } => 16 * version + 8 * u64::from(removed) + 4 * u64::from(locked),
+            State::Redirect { place } => 16 * u64::from(place) + 1,
+            State::Moved => 2,
+        }
+    }
+
+    /// The state that a word stands for. It is `None` exactly for a word that no state has.
+    #[inline]
+    pub fn read(word: u64) -> Option<State>
+        ensures writable { IfSome result IsWritableState }
+        ensures reads { IfSome result (λ state. word_of_state state ≡ word) }
+        ensures reads_back { (state : State) → IsWritableState state → word_of_state state ≡ word →
+            result ≡ Some state }
+    {
+        let upper = word / 16;
+        match word % 16 {
+            0 | 4 | 8 | 12 => Some(State::Direct {
+                version: upper,
+                locked: word / 4 % 2 == 1,
+                removed: word / 8 % 2 == 1,
+            }),
+            1 if 0 < upper && upper < 1 << 28 => Some(State::Redirect {
+                place: upper as u32,
+            }),
+            2 if upper == 0 => Some(State::Moved),
+            _ => None,
+        }
+    }
+}
+
+#[cfg(test)]
+mod tests {
+    use super::*;
+
+    #[test]
+    fn each_state_has_its_word_and_is_read_back(rt: HostRuntime) {
+        let last = (1 << 60) - 1;
+        let table = [
+            (0, direct(0, false, false)),
+            (4, direct(0, true, false)),
+            (8, direct(0, false, true)),
+            (12, direct(0, true, true)),
+            (16, direct(1, false, false)),
+            (u64::MAX - 15, direct(last, false, false)),
+            (u64::MAX - 3, direct(last, true, true)),
+            (17, State::Redirect { place: 1 }),
+            (4294967281, State::Redirect { place: 268435455 }),
+            (2, State::Moved),
+        ];
+        for (word, state) in table {
+            assert_eq!(rt; State::read(word), Some(state), "at {word}");
+            if let Some(read) = State::read(word) {
+                assert_eq!(rt; read.word(), word);
+            }
+        }
+    }
+
+    #[test]
+    fn a_word_that_no_state_has_is_not_read(rt: HostRuntime) {
+        for word in [
+            1,
+            3,
+            5,
+            6,
+            7,
+            9,
+            10,
+            11,
+            13,
+            14,
+            15,
+            18,
+            4294967297,
+            u64::MAX,
+        ] {
+            assert_eq!(rt; State::read(word), None, "at {word}");
+        }
+    }
+
+    fn direct(version: u64, locked: bool, removed: bool) -> State {
+        State::Direct {
+            version,
+            locked,
+            removed,
+        }
+    }
+}
