@@ -1,0 +1,8 @@
+pub mod Executions
+pub mod Placing
+pub mod Linking
+pub mod Counting
+pub mod Observing
+pub mod Holding
+pub mod Barring
+pub mod GracePeriods

@@ -1,0 +1,10 @@
+pub mod Execution
+pub mod Lists
+pub mod Words
+pub mod Sections
+pub mod Rows
+pub mod ObservedHeads
+pub mod Conditions
+pub mod RowLaws
+pub mod SectionLaws
+pub mod HeadLaws

@@ -1,0 +1,50 @@
+-- Read sections: a caller is inside between an entry and the exit that follows it.
+use Rattle.std.specs.Prelude.{◌≡◌, ℕ, ◌+◌, ◌%◌, ◌<◌, ◌≤◌, Bool, cond}
+use Rattle.index_machine.specs.declared.events.Action.{Action}
+use Rattle.index_machine.specs.declared.events.Action.TheVariants.{Enter, Leave}
+use Rattle.index_machine.specs.declared.opening.Opening.{Opening}
+use Rattle.index_machine.specs.Execution.{Execution, own}
+use Rattle.index_machine.specs.Words.{limits}
+
+-- ---- hands ----
+
+-- the number of a caller's hand
+abbrev pub IsCaller : Opening → ℕ → Type 0
+IsCaller o hand = hand < (limits o).callers
+
+-- the number of the keeper's hand
+abbrev pub IsKeeper : Opening → ℕ → Type 0
+IsKeeper o hand = hand ≡ (limits o).callers
+
+-- the number of a hand
+abbrev pub IsHand : Opening → ℕ → Type 0
+IsHand o hand = hand ≤ (limits o).callers
+
+-- ---- inside and outside ----
+
+-- the count of crossings after an action: an entry and an exit each cross the border of a read
+-- section
+abbrev pub crossings_after : Bool → Action → ℕ → ℕ
+crossings_after mine (Enter n) count = cond mine (count + 1) count
+crossings_after mine (Leave n) count = cond mine (count + 1) count
+crossings_after mine _ count = count
+
+-- how often the hand entered and left
+abbrev pub crossings : ℕ → Execution → ℕ
+crossings hand t = own crossings_after 0 hand t
+
+-- the hand is inside a read section
+abbrev pub IsInside : ℕ → Execution → Type 0
+IsInside hand t = crossings hand t % 2 ≡ 1
+
+-- the hand is in no read section
+abbrev pub IsOutside : ℕ → Execution → Type 0
+IsOutside hand t = crossings hand t % 2 ≡ 0
+
+-- the hand was outside at the earlier execution, or has left that read section since
+abbrev pub HasLeft : ℕ → Execution → Execution → Type 0
+HasLeft hand earlier later = IsInside hand earlier → crossings hand earlier < crossings hand later
+
+-- the grace period is over: each caller that was inside at the earlier execution has left since
+abbrev pub IsQuiescent : Opening → Execution → Execution → Type 0
+IsQuiescent o earlier later = (caller : ℕ) → IsCaller o caller → HasLeft caller earlier later
