@@ -1,0 +1,9 @@
+pub mod Steps
+pub mod Seats
+pub mod Opens
+pub mod StepKinds
+pub mod EpochSteps
+pub mod Laid
+pub mod Ending
+pub mod FreeSteps
+pub mod Stepping

@@ -1,0 +1,322 @@
+-- A seat may be cut in two, and two may be joined.
+use Rattle.std.proofs.Common.{◌≡◌, ◌≢◌, ℕ, zero, suc, ◌<◌, ◌≤◌, lt-ltb, le-ltb, ◌⊎◌, inl, inr}
+use Rattle.std.proofs.Common.{⊎_elim, Some, List, [], ◌∷◌, ◌++◌, length, set, refl, sym, ap, ◌∙◌}
+use Rattle.std.proofs.Common.{subst, arith, append-nil, length-append}
+use mathlib.Core.Option.{some, some-injective, some-ne-none}
+use lib.ListN.{get_elem?}
+use Rattle.atomic_table.specs.Table.{Splits, Joins}
+use Rattle.atomic_table.proofs.Lists.{at_set, set_else}
+use Rattle.index_machine.specs.declared.events.Event.{Event}
+use Rattle.index_machine.specs.declared.opening.Opening.{Opening}
+use Rattle.index_machine.specs.Execution.{Execution, Without}
+use Rattle.index_machine.specs.Lists.{In, AreDistinct}
+use Rattle.index_machine.specs.Rows.{below_top}
+use Rattle.index_rule.specs.declared.view.View.{View}
+use Rattle.index_rule.specs.declared.view.Heard.{Heard}
+use Rattle.index_rule.specs.Rule.{Owns, AreOwn, Knows, AreApart, Kept}
+use Rattle.index_rule.specs.Seats.{others_left, one_hand, only_first, longer, joined, spent}
+use Rattle.index_rule.proofs.Steps.{apart_set, is_some}
+
+at_end : (l : List View) (a b : View) (j : ℕ) → get_elem? (l ++ a ∷ []) j ≡ some b →
+    (get_elem? l j ≡ some b) ⊎ ((j ≡ length l) × (a ≡ b))
+at_end [] a b zero e = inr (refl, some-injective a b e)
+at_end [] a b (suc j) e = absurd (some-ne-none b (sym e))
+at_end (x ∷ xs) a b zero e = inl e
+at_end (x ∷ xs) a b (suc j) e =
+    ⊎_elim inl (λ t. inr (ap suc t.0, t.1)) (at_end xs a b j e)
+
+-- ---- cutting ----
+
+-- what was heard before the first step
+none_heard : (v : View) (numbers : List ℕ) → v.heard ≡ [] → AreOwn v.heard numbers
+none_heard v numbers none = subst (λ (z : List Heard). AreOwn z numbers) (sym none) tt
+
+-- some of the seat's numbers go to a new seat; the seat has heard nothing yet
+module _ (o : Opening) (id : ℕ) (v : View) (ls rs : List ℕ)
+    (left : (hand : ℕ) → In hand ls → Owns v hand) (right : (hand : ℕ) → In hand rs → Owns v hand)
+    (apart : AreDistinct v.numbers → (hand : ℕ) → In hand ls → In hand rs → ⊥)
+    (once : AreDistinct v.numbers → AreDistinct ls × AreDistinct rs) where
+  one : View
+  one = record v { numbers = ls }
+
+  two : View
+  two = record v { numbers = rs }
+
+  apart_split : (views : List View) → AreDistinct v.numbers → AreApart views →
+      get_elem? views id ≡ some v → AreApart (set views id one ++ two ∷ [])
+  unfolding one two
+  apart_split views un old at i j c x y p q ox oy =
+      ⊎_elim
+      (λ (a : get_elem? (set views id one) i ≡ some x). ⊎_elim
+      (λ (b : get_elem? (set views id one) j ≡ some y).
+      apart_set views id v one old at left i j c x y a b ox oy)
+      (λ (b : (j ≡ length (set views id one)) × (two ≡ y)).
+      absurd (mixed i x a ox (subst (λ (z : View). Owns z c) (sym b.1) oy)))
+      (at_end (set views id one) two y j q))
+      (λ (a : (i ≡ length (set views id one)) × (two ≡ x)). ⊎_elim
+      (λ (b : get_elem? (set views id one) j ≡ some y).
+      absurd (mixed j y b oy (subst (λ (z : View). Owns z c) (sym a.1) ox)))
+      (λ (b : (j ≡ length (set views id one)) × (two ≡ y)). a.0 ∙ sym b.0)
+      (at_end (set views id one) two y j q))
+      (at_end (set views id one) two x i p)
+    where
+      mixed : (i : ℕ) (x : View) → get_elem? (set views id one) i ≡ some x → Owns x c →
+          In c rs → ⊥
+      mixed i x a ox r =
+          ⊎_elim
+          (λ (b : (i ≡ id) × (one ≡ x)). apart un c (subst (λ (z : View). Owns z c) (sym b.1) ox) r)
+          (λ (b : (i ≢ id) × (get_elem? views i ≡ some x)).
+          b.0 (old i id c x v b.1 at ox (right c r)))
+          (at_set views id i one x a)
+
+  part : (t : Execution) (ns : List ℕ) → v.heard ≡ [] → ((hand : ℕ) → In hand ns → Owns v hand) →
+      AreDistinct ns → Knows o t v → Knows o t (record v { numbers = ns })
+  part t ns none sub un k =
+      record {
+        opening = k.opening;
+        goes_on = (k.goes_on.0, k.goes_on.1, λ c h. k.goes_on.2 c (sub c h));
+        heard = k.heard;
+        own_heard = none_heard v ns none;
+        once = un;
+        hands = λ c h. k.hands c (sub c h);
+      }
+
+  pub splits : v.opening ≡ Some o → v.heard ≡ [] →
+      Splits (Kept o) id v (record v { numbers = ls }) (record v { numbers = rs })
+  unfolding one two
+  splits of none s r at =
+      let k = r.known id v at (is_some v.opening o of) in
+      let un = once k.once in
+      record {
+        execution = r.execution;
+        valid = r.valid;
+        words = r.words;
+        apart = apart_split s.views k.once r.apart at;
+        known = λ i u p q. ⊎_elim
+            (λ (a : get_elem? (set s.views id one) i ≡ some u). ⊎_elim
+            (λ (b : (i ≡ id) × (one ≡ u)).
+            subst (Knows o r.execution) b.1 (part r.execution ls none left un.0 k))
+            (λ (b : (i ≢ id) × (get_elem? s.views i ≡ some u)). r.known i u b.1 q)
+            (at_set s.views id i one u a))
+            (λ (a : (i ≡ length (set s.views id one)) × (two ≡ u)).
+            subst (Knows o r.execution) a.1 (part r.execution rs none right un.1 k))
+            (at_end (set s.views id one) two u i p);
+      }
+
+-- the first of the numbers becomes a hand
+pub makes_hand : (o : Opening) (id : ℕ) (v : View) → v.opening ≡ Some o → v.heard ≡ [] →
+    Splits (Kept o) id v (others_left v) (one_hand v)
+makes_hand o id v of none = cut v.numbers refl
+  where
+    back : (ns : List ℕ) → v.numbers ≡ ns →
+        Splits (Kept o) id v (record v { numbers = below_top ns })
+        (record v { numbers = only_first ns }) →
+        Splits (Kept o) id v (others_left v) (one_hand v)
+    back ns e =
+        subst (λ (z : List ℕ). Splits (Kept o) id v (record v { numbers = below_top z })
+        (record v { numbers = only_first z })) (sym e)
+
+    cut : (ns : List ℕ) → v.numbers ≡ ns → Splits (Kept o) id v (others_left v) (one_hand v)
+    cut [] e =
+        back [] e
+        (splits o id v [] [] (λ c h. absurd h) (λ c h. absurd h) (λ _ c h _. h) (λ _. (tt, tt))
+        of none)
+    cut (c ∷ cs) e =
+        back (c ∷ cs) e
+        (splits o id v cs (c ∷ [])
+        (λ d h. subst (In d) (sym e) (inr h))
+        (λ d h. subst (In d) (sym e) (⊎_elim inl (λ z. absurd z) h))
+        (λ un d h k. let u : AreDistinct (c ∷ cs) = subst AreDistinct e un in
+        u.0 (subst (λ (z : ℕ). In z cs) (⊎_elim (λ (z : d ≡ c). z) (λ z. absurd z) k) h))
+        (λ un. let u : AreDistinct (c ∷ cs) = subst AreDistinct e un in (u.1, ((λ z. z), tt)))
+        of none)
+
+-- ---- two beginnings of one execution ----
+
+without_before : (c : ℕ) (n m : Execution) → Without c (n ++ m) → Without c n
+without_before c [] m out = tt
+without_before c (e ∷ n) m out = (out.0, without_before c n m out.1)
+
+tail_is : (a b : Event) (s t : Execution) → a ∷ s ≡ b ∷ t → s ≡ t
+tail_is a b s t e = cc
+
+-- one of them begins the other
+one_begins : (n m v w : Execution) → n ++ v ≡ m ++ w →
+    ((mid : Execution) × (v ≡ mid ++ w) × (m ≡ n ++ mid))
+    ⊎ ((mid : Execution) × (w ≡ mid ++ v) × (n ≡ m ++ mid))
+one_begins [] m v w e = inl (m, e, refl)
+one_begins (a ∷ n) [] v w e = inr (a ∷ n, sym e, refl)
+one_begins (a ∷ n) (b ∷ m) v w e =
+    let same : a ≡ b = cc in
+    ⊎_elim
+    (λ (h : (mid : Execution) × (v ≡ mid ++ w) × (m ≡ n ++ mid)).
+    inl (h.0, h.1, (λ i. sym same i ∷ h.2 i)))
+    (λ (h : (mid : Execution) × (w ≡ mid ++ v) × (n ≡ m ++ mid)).
+    inr (h.0, h.1, (λ i. same i ∷ h.2 i)))
+    (one_begins n m v w (tail_is a b (n ++ v) (m ++ w) e))
+
+longer_first : (v w : Execution) → length w ≤ length v → longer v w ≡ v
+longer_first v w le = rw (le-ltb (length v) (length w) le) refl
+
+longer_second : (v w : Execution) → length v < length w → longer v w ≡ w
+longer_second v w lt = rw (lt-ltb (length v) (length w) lt) refl
+
+-- the longer of two beginnings is a beginning, without events of any hand that made none after
+-- either
+pub shared : (n m v w t : Execution) → n ++ v ≡ t → m ++ w ≡ t →
+    (newer : Execution) × (newer ++ longer v w ≡ t)
+    × ((hand : ℕ) → Without hand n → Without hand newer)
+    × ((hand : ℕ) → Without hand m → Without hand newer)
+shared n m v w t en em =
+    ⊎_elim
+    (λ (h : (mid : Execution) × (v ≡ mid ++ w) × (m ≡ n ++ mid)).
+    let long = length-append h.0 w in
+    let same : length v ≡ length (h.0 ++ w) = ap (λ (z : Execution). length z) h.1 in (
+      n,
+      ap (λ (z : Execution). n ++ z) (longer_first v w (omega arith)) ∙ en,
+      (λ c out. out),
+      λ c out. without_before c n h.0 (subst (Without c) h.2 out),
+    ))
+    (λ (h : (mid : Execution) × (w ≡ mid ++ v) × (n ≡ m ++ mid)). second h.0 h.1 h.2)
+    (one_begins n m v w (en ∙ sym em))
+  where
+    second : (mid : Execution) → w ≡ mid ++ v → n ≡ m ++ mid →
+        (newer : Execution) × (newer ++ longer v w ≡ t)
+        × ((hand : ℕ) → Without hand n → Without hand newer)
+        × ((hand : ℕ) → Without hand m → Without hand newer)
+    second [] e f =
+        let same : length w ≡ length v = ap (λ (z : Execution). length z) e in (
+          n,
+          ap (λ (z : Execution). n ++ z) (longer_first v w (omega arith)) ∙ en,
+          (λ c out. out),
+          λ c out. subst (Without c) (sym (f ∙ append-nil m)) out,
+        )
+    second (x ∷ mid) e f =
+        let long = length-append (x ∷ mid) v in
+        let same : length w ≡ length (x ∷ mid ++ v) = ap (λ (z : Execution). length z) e in (
+          m,
+          ap (λ (z : Execution). m ++ z) (longer_second v w (omega arith)) ∙ em,
+          (λ c out. without_before c m (x ∷ mid) (subst (Without c) f out)),
+          λ c out. out,
+        )
+
+-- ---- joining ----
+
+pub in_either : (c : ℕ) (ns ms : List ℕ) → In c (ns ++ ms) → In c ns ⊎ In c ms
+in_either c [] ms h = inr h
+in_either c (n ∷ ns) ms h =
+    ⊎_elim (λ (e : c ≡ n). inl (inl e))
+    (λ (k : In c (ns ++ ms)). ⊎_elim (λ (z : In c ns). inl (inr z)) inr (in_either c ns ms k)) h
+
+pub in_left : (c : ℕ) (ns ms : List ℕ) → In c ns → In c (ns ++ ms)
+in_left c [] ms h = absurd h
+in_left c (n ∷ ns) ms h = ⊎_elim inl (λ k. inr (in_left c ns ms k)) h
+
+pub in_right : (c : ℕ) (ns ms : List ℕ) → In c ms → In c (ns ++ ms)
+in_right c [] ms h = h
+in_right c (n ∷ ns) ms h = inr (in_right c ns ms h)
+
+once_both : (ns ms : List ℕ) → AreDistinct ns → AreDistinct ms → ((c : ℕ) → In c ns → In c ms → ⊥) →
+    AreDistinct (ns ++ ms)
+once_both [] ms a b apart = b
+once_both (n ∷ ns) ms a b apart = (
+  (λ h. ⊎_elim a.0 (apart n (inl refl)) (in_either n ns ms h)),
+  once_both ns ms a.1 b (λ c h k. apart c (inr h) k),
+)
+
+are_own_in : (hs : List Heard) (ns ms : List ℕ) → ((c : ℕ) → In c ns → In c ms) →
+    AreOwn hs ns → AreOwn hs ms
+are_own_in [] ns ms sub own = tt
+are_own_in (h ∷ hs) ns ms sub own =
+    ((λ c is. sub c (own.0 c is)), are_own_in hs ns ms sub own.1)
+
+-- what a seat knows that took in another
+joined_knows : (o : Opening) (t : Execution) (v w : View) → Knows o t v → Knows o t w →
+    ((c : ℕ) → Owns v c → Owns w c → ⊥) → Knows o t (joined v w)
+joined_knows o t v w k g none =
+    let two = shared k.goes_on.0 g.goes_on.0 v.known w.known t k.goes_on.1 g.goes_on.1 in
+    record {
+      opening = k.opening;
+      goes_on = (
+        two.0,
+        two.1,
+        λ c h. ⊎_elim (λ (a : Owns v c). two.2 c (k.goes_on.2 c a))
+            (λ (b : Owns w c). two.3 c (g.goes_on.2 c b)) (in_either c v.numbers w.numbers h),
+      );
+      heard = (g.goes_on, (k.goes_on, k.heard));
+      own_heard = (
+        (λ c h. in_right c v.numbers w.numbers h),
+        (
+          (λ c h. in_left c v.numbers w.numbers h),
+          are_own_in v.heard v.numbers (v.numbers ++ w.numbers)
+              (λ c h. in_left c v.numbers w.numbers h) k.own_heard,
+        ),
+      );
+      once = once_both v.numbers w.numbers k.once g.once none;
+      hands = λ c h. ⊎_elim (k.hands c) (g.hands c) (in_either c v.numbers w.numbers h);
+    }
+
+-- the seat takes in another
+pub joins : (o : Opening) (id other : ℕ) (v w : View) → v.opening ≡ Some o → w.opening ≡ Some o →
+    Joins (Kept o) id v other w (joined v w) spent
+joins o id other v w of og s r at apart there0 =
+    let x : View = joined v w in
+    let there : get_elem? s.views other ≡ some w =
+    sym (set_else s.views id other x apart) ∙ there0
+    in
+    let k = r.known id v at (is_some v.opening o of) in
+    let g = r.known other w there (is_some w.opening o og) in
+    let ours : (c : ℕ) → Owns x c → Owns v c ⊎ Owns w c =
+    λ c h. in_either c v.numbers w.numbers h
+    in
+    let mine : Knows o r.execution x =
+    joined_knows o r.execution v w k g (λ c a b. apart (r.apart other id c w v there at b a))
+    in
+    let views : List View = set (set s.views id x) other spent in
+    let cases : (i : ℕ) (u : View) → get_elem? views i ≡ some u →
+    (spent ≡ u)
+    ⊎ (((i ≡ id) × (x ≡ u)) ⊎ ((i ≢ id) × (i ≢ other) × (get_elem? s.views i ≡ some u))) =
+    λ i u p. ⊎_elim (λ (a : (i ≡ other) × (spent ≡ u)). inl a.1)
+    (λ (a : (i ≢ other) × (get_elem? (set s.views id x) i ≡ some u)). ⊎_elim
+    (λ (b : (i ≡ id) × (x ≡ u)). inr (inl b))
+    (λ (b : (i ≢ id) × (get_elem? s.views i ≡ some u)). inr (inr (b.0, a.0, b.1)))
+    (at_set s.views id i x u a.1))
+    (at_set (set s.views id x) other i spent u p)
+    in
+    let alone : (i c : ℕ) (u : View) → i ≢ id → i ≢ other → get_elem? s.views i ≡ some u →
+    Owns u c → Owns x c → ⊥ =
+    λ i c u ne no p own h. ⊎_elim (λ (a : Owns v c). ne (r.apart i id c u v p at own a))
+    (λ (b : Owns w c). no (r.apart i other c u w p there own b)) (ours c h)
+    in
+    record {
+      execution = r.execution;
+      valid = r.valid;
+      words = r.words;
+      apart = λ i j c u y p q ou oy. ⊎_elim
+          (λ (a : spent ≡ u). absurd (subst (λ (z : View). Owns z c) (sym a) ou))
+          (λ a. ⊎_elim
+          (λ (b : spent ≡ y). absurd (subst (λ (z : View). Owns z c) (sym b) oy))
+          (λ b. ⊎_elim
+          (λ (a1 : (i ≡ id) × (x ≡ u)). ⊎_elim
+          (λ (b1 : (j ≡ id) × (x ≡ y)). a1.0 ∙ sym b1.0)
+          (λ (b1 : (j ≢ id) × (j ≢ other) × (get_elem? s.views j ≡ some y)).
+          absurd (alone j c y b1.0 b1.1 b1.2 oy
+          (subst (λ (z : View). Owns z c) (sym a1.1) ou)))
+          b)
+          (λ (a1 : (i ≢ id) × (i ≢ other) × (get_elem? s.views i ≡ some u)). ⊎_elim
+          (λ (b1 : (j ≡ id) × (x ≡ y)).
+          absurd (alone i c u a1.0 a1.1 a1.2 ou
+          (subst (λ (z : View). Owns z c) (sym b1.1) oy)))
+          (λ (b1 : (j ≢ id) × (j ≢ other) × (get_elem? s.views j ≡ some y)).
+          r.apart i j c u y a1.2 b1.2 ou oy)
+          b)
+          a)
+          (cases j y q))
+          (cases i u p);
+      known = λ i u p q. ⊎_elim
+          (λ (a : spent ≡ u). absurd (q (sym (ap (λ (z : View). z.opening) a))))
+          (λ a. ⊎_elim (λ (b : (i ≡ id) × (x ≡ u)). subst (Knows o r.execution) b.1 mine)
+          (λ (b : (i ≢ id) × (i ≢ other) × (get_elem? s.views i ≡ some u)). r.known i u b.2 q)
+          a)
+          (cases i u p);
+    }

@@ -1,0 +1,142 @@
+-- What a hand knows after one step of its own, whatever the others did before it.
+use Rattle.std.proofs.Common.{◌≡◌, ℕ, ◌%◌, ◌^◌, true, ◌∷◌, ◌++◌, sym, ap, ◌∙◌, subst}
+use Rattle.word_layout.specs.declared.places.Part.{Part}
+use Rattle.word_layout.specs.Words.{PlaceWord}
+use Rattle.index_machine.specs.declared.events.Action.{Action}
+use Rattle.index_machine.specs.declared.events.Action.TheVariants.{LoadEpoch, PopFree}
+use Rattle.index_machine.specs.Execution.{Execution, Continues, Without, event}
+use Rattle.index_machine.specs.Words.{word, store_of, stored}
+use Rattle.index_machine.specs.Sections.{IsCaller, IsKeeper, crossings, crossings_after}
+use Rattle.index_machine.specs.Rows.{Holds, HoldsNone}
+use Rattle.index_machine.specs.ObservedHeads.{IsUnobserved, observed_after, observed_head}
+use Rattle.index_machine.specs.Conditions.{IsReading, Valid}
+use Rattle.index_machine.specs.HeadLaws.{IsNoPushOf}
+use Rattle.index_machine.proofs.Counting.{counted}
+use Rattle.index_machine.proofs.Executions.{crossings_on, crossings_own, observed_head_on}
+use Rattle.index_machine.proofs.Executions.{observed_head_own}
+use Rattle.index_machine.proofs.GracePeriods.{others_push_none, unobserved_on}
+use Rattle.index_machine.proofs.Holding.{held_words_on}
+use Rattle.index_machine.proofs.Placing.{KeepsRoles, holds_kept, holds_none_kept, holds_none_on}
+use Rattle.index_machine.proofs.Placing.{holds_on, holds_popped, unused-held}
+use Rattle.index_rule.specs.declared.board.Board.{Board}
+use Rattle.index_rule.specs.declared.hand.Hand.{Hand}
+use Rattle.index_rule.specs.declared.view.View.{View}
+use Rattle.index_rule.specs.Hands.{IsHandOf, Makes, known, opening_of}
+use Rattle.index_rule.specs.Rule.{first_of}
+
+-- an action by which no hand enters or leaves
+abbrev pub IsNoCrossing : Action → Type 0
+IsNoCrossing action = (count : ℕ) → crossings_after true action count ≡ count
+
+module _ (b : Board) (h k : Hand) (action : Action) (of : IsHandOf b h)
+    (m : Makes b h action k) where
+  between : Execution
+  between = m.acts.0
+
+  -- the whole of what it knows
+  pub known_is : known k ≡ event h.number action ∷ m.acts.0 ++ known h
+  known_is =
+      ap (λ (z : View). z.known) m.acts.1
+      ∙ ap (λ (z : ℕ). event z action ∷ m.acts.0 ++ known h) (ap first_of h.mine)
+
+  pub others_only : Without h.number m.acts.0
+  others_only = subst (λ (z : ℕ). Without z m.acts.0) (ap first_of h.mine) m.acts.2
+
+  pub continues : Continues (known h) (known k)
+  continues = (event h.number action ∷ m.acts.0, sym known_is)
+
+  pub valid_after : Valid (opening_of b) (event h.number action ∷ m.acts.0 ++ known h)
+  valid_after = subst (Valid (opening_of b)) known_is (m.acts.3 (opening_of b) of.opened)
+
+  pub valid_known : Valid (opening_of b) (known k)
+  valid_known = m.acts.3 (opening_of b) of.opened
+
+  -- ---- its read section ----
+
+  pub crossings_is : crossings k.number (known k)
+      ≡ crossings_after true action (crossings h.number (known h))
+  crossings_is =
+      ap (λ (n : ℕ). crossings n (known k)) m.number
+      ∙ (ap (crossings h.number) known_is
+      ∙ (crossings_own h.number action (m.acts.0 ++ known h)
+      ∙ ap (crossings_after true action) (crossings_on h.number m.acts.0 (known h) others_only)))
+
+  pub still_reading : IsNoCrossing action → IsReading (opening_of b) h.number (known h) →
+      IsReading (opening_of b) k.number (known k)
+  still_reading none reading =
+      record {
+        caller = subst (IsCaller (opening_of b)) (sym m.number) reading.caller;
+        inside = ap (λ (z : ℕ). z % 2) (crossings_is ∙ none (crossings h.number (known h)))
+            ∙ reading.inside;
+      }
+
+  pub observed_is : observed_head k.number (known k)
+      ≡ observed_after true action (observed_head h.number (known h))
+  observed_is =
+      ap (λ (n : ℕ). observed_head n (known k)) m.number
+      ∙ (ap (observed_head h.number) known_is
+      ∙ (observed_head_own h.number action (m.acts.0 ++ known h)
+      ∙ ap (observed_after true action) (observed_head_on h.number m.acts.0 (known h) others_only)))
+
+  -- ---- its rows ----
+
+  pub still_holds : KeepsRoles action → (place : ℕ) →
+      Holds (opening_of b) h.number place (known h) →
+      Holds (opening_of b) k.number place (known k)
+  still_holds keeps place held =
+      subst (λ (z : ℕ × Execution). Holds (opening_of b) z.0 place z.1)
+      (λ i. (sym m.number i, sym known_is i))
+      (holds_kept (opening_of b) h.number action (m.acts.0 ++ known h) keeps h.number place
+      (holds_on (opening_of b) h.number place m.acts.0 (known h) valid_after.1 others_only held))
+
+  pub still_holds_none : KeepsRoles action → HoldsNone (opening_of b) h.number (known h) →
+      HoldsNone (opening_of b) k.number (known k)
+  still_holds_none keeps none =
+      subst (λ (z : ℕ × Execution). HoldsNone (opening_of b) z.0 z.1)
+      (λ i. (sym m.number i, sym known_is i))
+      (holds_none_kept (opening_of b) h.number action (m.acts.0 ++ known h) keeps h.number
+      (holds_none_on (opening_of b) h.number m.acts.0 (known h) valid_after.1 others_only none))
+
+  -- a word of a row that it held before the step
+  pub held_word_is : (place : ℕ) (part : Part) → Holds (opening_of b) h.number place (known h) →
+      word (opening_of b) (known k) (PlaceWord place part)
+      ≡ stored (store_of h.number action) (PlaceWord place part)
+      (word (opening_of b) (known h) (PlaceWord place part))
+  held_word_is place part held =
+      ap (λ (z : Execution). word (opening_of b) z (PlaceWord place part)) known_is
+      ∙ ap (stored (store_of h.number action) (PlaceWord place part))
+      (held_words_on (opening_of b) h.number place m.acts.0 (known h) valid_after.1 others_only held
+      part)
+
+  -- what nobody relies on, while the keeper holds it
+  pub still_unobserved : IsKeeper (opening_of b) h.number → (place : ℕ) → IsNoPushOf place action →
+      Holds (opening_of b) h.number place (known h) →
+      IsUnobserved (opening_of b) place (known h) → IsUnobserved (opening_of b) place (known k)
+  still_unobserved keeper place none held unseen =
+      subst (IsUnobserved (opening_of b) place) (sym known_is)
+      (unobserved_on (opening_of b) place (event h.number action ∷ m.acts.0) (known h) valid_after (
+        none,
+        others_push_none (opening_of b) place h.number m.acts.0 (known h) keeper valid_after.1
+            others_only,
+      )
+      (λ z. unused-held (sym z ∙ held)) unseen)
+
+-- ---- single steps ----
+
+-- the hand that popped a row holds it
+pub holds_after_pop : (b : Board) (h k : Hand) (place next : ℕ) → IsHandOf b h →
+    Makes b h (PopFree place next) k → Holds (opening_of b) k.number place (known k)
+holds_after_pop b h k place next of m =
+    subst (λ (z : ℕ × Execution). Holds (opening_of b) z.0 place z.1)
+    (λ i. (sym m.number i, sym (known_is b h k (PopFree place next) of m) i))
+    (holds_popped (opening_of b) h.number place next (m.acts.0 ++ known h))
+
+-- an epoch word that was loaded counts the crossings
+pub epoch_is : (b : Board) (h k : Hand) (caller found : ℕ) → IsHandOf b h →
+    Makes b h (LoadEpoch caller found) k → found ≡ crossings caller (known k) % 2 ^ 64
+epoch_is b h k caller found of m =
+    let valid = valid_after b h k (LoadEpoch caller found) of m in
+    sym valid.0.1
+    ∙ ((counted (opening_of b) (m.acts.0 ++ known h) valid.1).count caller valid.0.0
+    ∙ ap (λ (z : Execution). crossings caller z % 2 ^ 64)
+    (sym (known_is b h k (LoadEpoch caller found) of m)))

@@ -1,0 +1,221 @@
+-- A step of any kind keeps the rule where its condition holds and its event stores what the step
+-- stored.
+use Rattle.std.proofs.Common.{◌≡◌, ◌≢◌, ℕ, inl, ⊎_elim, Bool, true, false, cond, Option, Some, None}
+use Rattle.std.proofs.Common.{List, [], ◌∷◌, ◌++◌, slice_index, slice_set, set, refl, sym, ap, ◌∙◌}
+use Rattle.std.proofs.Common.{subst, eq-eqb, length-set}
+use mathlib.Core.Option.{some}
+use lib.ListN.{get_elem?}
+use Rattle.std.proofs.lemmas.Grind.{merely}
+use Rattle.atomic_table.specs.Table.{Me, keeps, Allows}
+use Rattle.atomic_table.proofs.Lists.{at_set}
+use Rattle.word_layout.specs.Words.{Word, IsWord, address_of, word_named, same_word}
+use Rattle.word_layout.proofs.SameWords.{same_word-refl, same_word-true}
+use Rattle.word_layout.proofs.WordNames.{stores_by_name}
+use Rattle.index_machine.specs.declared.events.Action.{Action}
+use Rattle.index_machine.specs.declared.events.Event.{Event}
+use Rattle.index_machine.specs.declared.opening.Opening.{Opening}
+use Rattle.index_machine.specs.Execution.{Execution, event, Without}
+use Rattle.index_machine.specs.Lists.{In}
+use Rattle.index_machine.specs.Words.{limits, store_of, stored, word}
+use Rattle.index_machine.specs.Sections.{crossings, crossings_after}
+use Rattle.index_machine.specs.Conditions.{Allowed, Valid}
+use Rattle.index_machine.proofs.Executions.{crossings_on}
+use Rattle.index_rule.specs.declared.view.View.{View}
+use Rattle.index_rule.specs.declared.view.Heard.{Heard}
+use Rattle.index_rule.specs.Rule.{Owns, GoesOn, GoesOnFromAll, AreOwn, Knows, StandsFor, AreApart}
+use Rattle.index_rule.specs.Rule.{Kept, Acts, Does, number, first_of, stepped}
+
+-- ---- the seats ----
+
+-- a seat that is no more hands than before keeps the seats apart
+pub apart_set : (views : List View) (id : ℕ) (v w : View) → AreApart views →
+    get_elem? views id ≡ some v → ((hand : ℕ) → Owns w hand → Owns v hand) →
+    AreApart (set views id w)
+apart_set views id v w apart at sub i j c x y p q ox oy =
+    ⊎_elim
+    (λ (a : (i ≡ id) × (w ≡ x)). ⊎_elim
+    (λ (b : (j ≡ id) × (w ≡ y)). a.0 ∙ sym b.0)
+    (λ (b : (j ≢ id) × (get_elem? views j ≡ some y)).
+    a.0 ∙ apart id j c v y at b.1 (sub c (subst (λ (z : View). Owns z c) (sym a.1) ox)) oy)
+    (at_set views id j w y q))
+    (λ (a : (i ≢ id) × (get_elem? views i ≡ some x)). ⊎_elim
+    (λ (b : (j ≡ id) × (w ≡ y)).
+    apart i id c x v a.1 at ox (sub c (subst (λ (z : View). Owns z c) (sym b.1) oy))
+    ∙ sym b.0)
+    (λ (b : (j ≢ id) × (get_elem? views j ≡ some y)). apart i j c x y a.1 b.1 ox oy)
+    (at_set views id j w y q))
+    (at_set views id i w x p)
+
+pub is_some : (x : Option Opening) (o : Opening) → x ≡ Some o → x ≢ None
+is_some x o e f = let z : None ≡ Some o = sym f ∙ e in cc
+
+pub one_opening : (o p : Opening) → Some o ≡ Some p → o ≡ p
+one_opening o p e = cc
+
+-- an event of another hand
+pub goes_more : (e : Event) (numbers : List ℕ) (known t : Execution) →
+    ((hand : ℕ) → In hand numbers → e.by ≢ hand) → GoesOn numbers known t →
+    GoesOn numbers known (e ∷ t)
+goes_more e numbers known t others g =
+    (e ∷ g.0, ap (λ (z : Execution). e ∷ z) g.1, λ c is. (others c is, g.2 c is))
+
+pub all_more : (e : Event) (hs : List Heard) (numbers : List ℕ) (t : Execution) →
+    AreOwn hs numbers → ((hand : ℕ) → In hand numbers → e.by ≢ hand) → GoesOnFromAll hs t →
+    GoesOnFromAll hs (e ∷ t)
+all_more e [] numbers t own others k = tt
+all_more e (h ∷ hs) numbers t own others k = (
+  goes_more e h.numbers h.known t (λ c is. others c (own.0 c is)) k.0,
+  all_more e hs numbers t own.1 others k.1,
+)
+
+-- ---- the words ----
+
+-- the list of words stands for the execution with its new event
+stands_more : (o : Opening) (words : List ℕ) (t : Execution) (c : ℕ) (d : Action) (w : Word)
+    (x : ℕ) → IsWord (limits o) w → StandsFor o words t →
+    ((u : Word) → stored (store_of c d) u (word o t u) ≡ cond (same_word w u) x (word o t u)) →
+    StandsFor o (slice_set words (address_of (limits o) w) x) (event c d ∷ t)
+stands_more o words t c d w x is_word old stores =
+    record {
+      wide = length-set words (address_of (limits o) w) x ∙ old.wide;
+      named = λ u is. by_test u is (same_word w u) refl;
+    }
+  where
+    by_test : (u : Word) → IsWord (limits o) u → (b : Bool) → same_word w u ≡ b →
+        word_named (limits o) (slice_set words (address_of (limits o) w) x) u
+        ≡ stored (store_of c d) u (word o t u)
+    by_test u is true e =
+        let same : w ≡ u = same_word-true w u e in
+        let here : word_named (limits o) (slice_set words (address_of (limits o) w) x) w ≡ x =
+        (stores_by_name (limits o)).stored words w x old.wide is_word
+        in
+        ap (word_named (limits o) (slice_set words (address_of (limits o) w) x)) (sym same)
+        ∙ (here ∙ sym (stores u ∙ ap (λ (z : Bool). cond z x (word o t u)) e))
+    by_test u is false e =
+        let differ : w ≢ u =
+        λ same. let z : true ≡ false = sym (same_word-refl w) ∙ (ap (same_word w) same ∙ e) in cc
+        in
+        (stores_by_name (limits o)).kept words w u x is_word is differ
+        ∙ (old.named u is ∙ sym (stores u ∙ ap (λ (z : Bool). cond z x (word o t u)) e))
+
+-- ---- any step ----
+
+-- what a step at the word w owes, whatever the execution is by then: its condition, and that its
+-- event stores this
+abbrev pub Owes : Opening → ℕ → View → Word → (ℕ → ℕ) → (ℕ → Action) → Type 0
+Owes o c v w f d =
+    (t : Execution) → Valid o t → (newer : Execution) → newer ++ v.known ≡ t → Without c newer →
+    let n : ℕ = word o t w in
+    Allowed o t c (d n)
+    × ((u : Word) →
+    stored (store_of c (d n)) u (word o t u) ≡ cond (same_word w u) (f n) (word o t u))
+
+-- the views after a step
+known_set : (o : Opening) (t : Execution) (d : Action) (views : List View) (id : ℕ) (v w : View)
+    (c : ℕ) → Owns v c → AreApart views → get_elem? views id ≡ some v → Knows o t v →
+    w ≡ record v { known = event c d ∷ t; heard = [] } →
+    ((i : ℕ) (u : View) → get_elem? views i ≡ some u → u.opening ≢ None → Knows o t u) →
+    (i : ℕ) (u : View) → get_elem? (set views id w) i ≡ some u → u.opening ≢ None →
+    Knows o (event c d ∷ t) u
+known_set o t d views id v w c mine apart at k is known i u p q =
+    ⊎_elim
+    (λ (a : (i ≡ id) × (w ≡ u)). subst (Knows o (event c d ∷ t)) (sym is ∙ a.1) (record {
+      opening = k.opening;
+      goes_on = ([], refl, λ _ _. tt);
+      heard = tt;
+      own_heard = tt;
+      once = k.once;
+      hands = k.hands;
+    }))
+    (λ (a : (i ≢ id) × (get_elem? views i ≡ some u)).
+    let h = known i u a.1 q in
+    let others : (hand : ℕ) → In hand u.numbers → c ≢ hand =
+    λ hand own same. a.0 (apart i id hand u v a.1 at own (subst (Owns v) same mine))
+    in
+    record {
+      opening = h.opening;
+      goes_on = goes_more (event c d) u.numbers u.known t others h.goes_on;
+      heard = all_more (event c d) u.heard u.numbers t h.own_heard others h.heard;
+      own_heard = h.own_heard;
+      once = h.once;
+      hands = h.hands;
+    })
+    (at_set views id i w u p)
+
+-- how often the hand crossed, after a step of its own
+pub crossings_stepped : (v : View) (d : Action) (newer : Execution) (c : ℕ) →
+    v.numbers ≡ c ∷ [] → Without c newer →
+    crossings c (stepped v d newer).known ≡ crossings_after true d (crossings c v.known)
+crossings_stepped v d newer c is out =
+    let mine : number v ≡ c = ap first_of is in
+    let t : Execution = newer ++ v.known in
+    ap (λ (z : Bool). crossings_after z d (crossings c t)) (eq-eqb (number v) c mine)
+    ∙ ap (crossings_after true d) (crossings_on c newer v.known out)
+
+pub acts : (o : Opening) (slots id : ℕ) (me : Me (Unit {0}) View) (c : ℕ) (w : Word)
+    (f : ℕ → ℕ) (d : ℕ → Action) → IsWord (limits o) w → me.0.numbers ≡ c ∷ [] →
+    me.0.opening ≡ Some o → Owes o c me.0 w f d →
+    Allows (Kept o) slots id me (address_of (limits o) w) f (λ n x. Does me (d n) x)
+acts o slots id me c w f d is_word is live owes s r _ at _ =
+    let v : View = me.0 in
+    let k = r.known id v at (is_some v.opening o live) in
+    let newer : Execution = k.goes_on.0 in
+    let t : Execution = r.execution in
+    let whole : newer ++ v.known ≡ t = k.goes_on.1 in
+    let mine : Owns v c = subst (In c) (sym is) (inl refl) in
+    let out : Without c newer = k.goes_on.2 c mine in
+    let own = owes t r.valid newer whole out in
+    let me_is : number v ≡ c = ap first_of is in
+    let a : ℕ = address_of (limits o) w in
+    let found : slice_index s.words a ≡ word o t w = r.words.named w is_word in
+    let here : Action = d (word o t w) in
+    let named : event (number v) here ∷ newer ++ v.known ≡ event c here ∷ t =
+    ap (λ (z : ℕ × Execution). event z.0 here ∷ z.1) (λ i. (me_is i, whole i))
+    in
+    let longer : Valid o (event c here ∷ t) = (own.0, r.valid, k.hands c mine) in
+    let Goal : ℕ → Type 0 =
+    λ n. Kept o record {
+      words = slice_set s.words a (f n);
+      homes = s.homes;
+      views = set s.views id (stepped v (d n) newer);
+    }
+    × Acts v (d n) (stepped v (d n) newer)
+    in
+    let kept : Kept o record {
+      words = slice_set s.words a (f (word o t w));
+      homes = s.homes;
+      views = set s.views id (stepped v here newer);
+    } =
+    record {
+      execution = event c here ∷ t;
+      valid = longer;
+      words = stands_more o s.words t c here w (f (word o t w)) is_word r.words own.1;
+      apart = apart_set s.views id v (stepped v here newer) r.apart at (λ _ h. h);
+      known = known_set o t here s.views id v (stepped v here newer) c mine r.apart at k
+          (ap (λ (z : Execution). record v { known = z; heard = [] }) named) r.known;
+    }
+    in
+    let tells : Acts v here (stepped v here newer) = (
+      newer,
+      refl,
+      subst (λ (z : ℕ). Without z newer) (sym me_is) out,
+      λ p of. subst (λ (z : Opening). Valid z (event (number v) here ∷ newer ++ v.known))
+          (one_opening o p (sym live ∙ of))
+          (subst (Valid o) (sym named) longer),
+    )
+    in
+    let all : Goal (slice_index s.words a) = subst Goal (sym found) (kept, tells) in
+    let n : ℕ = slice_index s.words a in (
+      stepped v (d n) newer,
+      keeps,
+      tt,
+      all.0,
+      record {
+        acts = all.1;
+        bare = refl;
+        numbers = refl;
+        following = λ p of. merely (all.1.3 p of);
+        crossed = λ hand one. crossings_stepped v (d n) newer hand one
+            (subst (λ (z : ℕ). Without z newer) (sym me_is ∙ ap first_of one) out);
+      },
+    )

@@ -1,0 +1,11 @@
+use Rattle.std.proofs.Common.{◌≡◌, ◌<◌, ℕ, length, slice_index}
+use Rattle.std.specs.Slots.{slots_items}
+use Rattle.index_rule.proofs.board.Board.close.Given as goal
+
+abbrev pub invariant-loop-i : goal.invariant-loop-i
+invariant-loop-i l =
+    record {
+      wide : length l.words.items ≡ l.count;
+      same : (k : ℕ) → k < l.i →
+          slice_index l.words.items k ≡ slice_index (slots_items l.closed.words) k;
+    }

@@ -1,0 +1,31 @@
+use Rattle.std.proofs.Common.{◌≡◌, ◌<◌, ℕ, List, length, slice_set, sym, ap, subst, ◌∙◌}
+use Rattle.std.proofs.lemmas.List.{get_or-replicate, length-replicate}
+use Rattle.word_layout.specs.Limits.{word_count}
+use Rattle.word_layout.specs.Words.{Word, IsWord, address_of, word_named}
+use Rattle.word_layout.proofs.WordNames.{address_of-within}
+use Rattle.index_machine.specs.Words.{limits}
+use Rattle.index_rule.specs.Opened.{LinksRows}
+use Rattle.index_rule.proofs.Laid.{laid}
+use Rattle.index_rule.proofs.board.laying.laid_words.Goals as goal
+
+pub returns : goal.returns
+returns c =
+    let o = c.args.opening.now in
+    let l = limits o in
+    let zeros : List ℕ = c.in_ok-words.words.items in
+    let items = c.in_ok-words.ensures.items_if_clones_equal (λ y h. h) in
+    let wide : length zeros ≡ word_count l =
+    ap (λ (z : List ℕ). length z) items ∙ (length-replicate _ 0 ∙ c.words.ensures.count)
+    in
+    let blank : (w : Word) → IsWord l w → word_named l zeros w ≡ 0 =
+    λ w is. ap (λ (z : List ℕ). word_named l z w) items
+    ∙ get_or-replicate _ (address_of l w) 0 0
+    (subst (λ (n : ℕ). address_of l w < n) (sym c.words.ensures.count) (address_of-within l w is))
+    in
+    let to = c.from.ensures ∙ c.row.ensures.address in
+    laid o zeros c.link_rows.new.words.items wide blank
+    (subst
+    (λ (z : ℕ × ℕ × ℕ). LinksRows l l.records (slice_set (slice_set zeros z.0 2) z.1 z.2)
+    c.link_rows.new.words.items)
+    (λ j. (c.root.ensures.named j, c.free_head.ensures.named j, to j))
+    c.link_rows.ensures)

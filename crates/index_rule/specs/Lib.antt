@@ -1,0 +1,7 @@
+pub mod Rule
+pub mod Steps
+pub mod Hands
+pub mod OwnRows
+pub mod Seats
+pub mod Opened
+pub mod Ended

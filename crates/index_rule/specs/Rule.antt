@@ -1,0 +1,130 @@
+-- The rule of the table: some valid execution leaves its words, and each seat knows a beginning of
+-- it in which all events of its hands stand.
+use Rattle.std.specs.Prelude.{◌≡◌, ◌≢◌, true, ℕ, zero, suc, ◌+◌, Some, None, Option, List, [], ◌∷◌}
+use Rattle.std.specs.Prelude.{◌++◌, length}
+use mathlib.Core.Option.{some}
+use lib.ListN.{get_elem?}
+use Rattle.atomic_table.specs.Table.{State, Me}
+use Rattle.word_layout.specs.Limits.{word_count}
+use Rattle.word_layout.specs.Words.{Word, FreeHead, IsWord, word_named}
+use Rattle.word_layout.specs.WordAt.{word_at}
+use Rattle.index_machine.specs.declared.events.Action.{Action}
+use Rattle.index_machine.specs.declared.opening.Opening.{Opening}
+use Rattle.index_machine.specs.Execution.{Execution, event, Without}
+use Rattle.index_machine.specs.Lists.{In, AreDistinct}
+use Rattle.index_machine.specs.Words.{limits, word}
+use Rattle.index_machine.specs.Sections.{IsHand, crossings, crossings_after}
+use Rattle.index_machine.specs.Conditions.{Valid}
+use Rattle.index_rule.specs.declared.view.View.{View}
+use Rattle.index_rule.specs.declared.view.Heard.{Heard}
+
+-- ---- what a seat knows ----
+
+-- the seat is the hand with this number
+abbrev pub Owns : View → ℕ → Type 0
+Owns v hand = In hand v.numbers
+
+-- the execution goes on from what was known, by events of other hands than these
+abbrev pub GoesOn : List ℕ → Execution → Execution → Type 0
+GoesOn numbers known t =
+    (newer : Execution) × (newer ++ known ≡ t) × ((hand : ℕ) → In hand numbers → Without hand newer)
+
+-- the execution goes on from all that was heard
+abbrev pub GoesOnFromAll : List Heard → Execution → Type 0
+GoesOnFromAll [] t = Unit {0}
+GoesOnFromAll (h ∷ hs) t = GoesOn h.numbers h.known t × GoesOnFromAll hs t
+
+-- what was heard is of hands that are the seat's
+abbrev pub AreOwn : List Heard → List ℕ → Type 0
+AreOwn [] numbers = Unit {0}
+AreOwn (h ∷ hs) numbers = ((hand : ℕ) → In hand h.numbers → In hand numbers) × AreOwn hs numbers
+
+-- the seat knows a beginning of the execution
+pub record Knows (o : Opening) (t : Execution) (v : View) : Type 0 where
+  pub opening : v.opening ≡ Some o
+  pub goes_on : GoesOn v.numbers v.known t
+  pub heard : GoesOnFromAll v.heard t
+  pub own_heard : AreOwn v.heard v.numbers
+  pub once : AreDistinct v.numbers
+  pub hands : (hand : ℕ) → Owns v hand → IsHand o hand
+
+-- ---- the rule ----
+
+-- the list of words stands for what each word holds after the execution
+pub record StandsFor (o : Opening) (words : List ℕ) (t : Execution) : Type 0 where
+  pub wide : length words ≡ word_count (limits o)
+  pub named : (w : Word) → IsWord (limits o) w → word_named (limits o) words w ≡ word o t w
+
+-- no two seats are one hand
+abbrev pub AreApart : List View → Type 0
+AreApart views =
+    (i j hand : ℕ) (v w : View) → get_elem? views i ≡ some v → get_elem? views j ≡ some w →
+    Owns v hand → Owns w hand → i ≡ j
+
+-- what holds between any two steps
+pub record Kept (o : Opening) (s : State (Unit {0}) View) : Type 0 where
+  pub execution : Execution
+  pub valid : Valid o execution
+  pub words : StandsFor o s.words execution
+  pub apart : AreApart s.views
+  pub known : (id : ℕ) (v : View) → get_elem? s.views id ≡ some v → v.opening ≢ None →
+      Knows o execution v
+
+-- the numbers from one on, so many
+abbrev pub counting : ℕ → ℕ → List ℕ
+counting first zero = []
+counting first (suc n) = first ∷ counting (first + 1) n
+
+-- the seat that the table is made with is all hands
+abbrev pub first_view : Opening → View
+first_view o =
+    record {
+      numbers = counting 0 ((limits o).callers + 1);
+      opening = Some o;
+      known = [];
+      heard = [];
+    }
+
+-- ---- a step ----
+
+-- the first of the numbers
+abbrev pub first_of : List ℕ → ℕ
+first_of [] = 0
+first_of (hand ∷ hands) = hand
+
+-- the number of the hand that the seat is
+abbrev pub number : View → ℕ
+number v = first_of v.numbers
+
+-- the word at an address of a table that was opened so
+abbrev pub word_of_opening : Option Opening → ℕ → Word
+word_of_opening None address = FreeHead
+word_of_opening (Some o) address = word_at (limits o) address
+
+-- the word at an address of the seat's table
+abbrev pub word_in : View → ℕ → Word
+word_in v address = word_of_opening v.opening address
+
+-- the view of a hand that has made this action after these events of others
+abbrev pub stepped : View → Action → Execution → View
+stepped v action newer =
+    record v { known = event (number v) action ∷ newer ++ v.known; heard = [] }
+
+-- the hand made this action, after events of others, and knows a valid execution
+abbrev pub Acts : View → Action → View → Type 0
+Acts v action w =
+    (newer : Execution) × (w ≡ stepped v action newer) × Without (number v) newer
+    × ((o : Opening) → v.opening ≡ Some o → Valid o w.known)
+
+-- what the seat knows is a valid execution of its table
+abbrev pub IsFollowing : View → Type 0
+IsFollowing v = (o : Opening) → v.opening ≡ Some o → ∥ Valid o v.known ∥₁
+
+-- what a step tells its hand
+pub record Does (m : Me (Unit {0}) View) (action : Action) (x : Me (Unit {0}) View) : Type 0 where
+  pub acts : Acts m.0 action x.0
+  pub bare : x.1 ≡ m.1
+  pub numbers : x.0.numbers ≡ m.0.numbers
+  pub following : IsFollowing x.0
+  pub crossed : (hand : ℕ) → m.0.numbers ≡ hand ∷ [] →
+      crossings hand x.0.known ≡ crossings_after true action (crossings hand m.0.known)

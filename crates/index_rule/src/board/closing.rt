@@ -1,0 +1,126 @@
+//! A board is closed: its hands are joined, and its words are handed out.
+ghost use Rattle.std.specs.Prelude.{◌≡◌, IfOk, IfErr, Some};
+ghost use Rattle.std.specs.Slots.{IsFull, slots_items, slots_len};
+ghost use Rattle.word_layout.specs.Limits.{word_count};
+ghost use Rattle.word_layout.specs.Layout.{limits_of};
+ghost use Rattle.index_rule.specs.Hands.{opening_of};
+ghost use Rattle.index_rule.specs.declared.hand.Hand.{Hand};
+ghost use Rattle.index_rule.specs.Ended.{AreAllHands, AreOf, Includes, IncludesAll, Leaves};
+
+use crate::board::Board;
+use crate::hand::Hand;
+use crate::plays::TakesIn;
+use crate::rule::Place;
+use atomic_table::Closed;
+use std::alloc::Global;
+
+impl Board {
+    /// Takes back all hands, in any order, and gives the words by their addresses.
+    ///
+    /// Memory is taken first. Where there is none, everything is handed back as it was.
+    pub fn close(self, alloc: Global, hands: Vec<Hand>) -> Result<Vec<u64>, (Board, Vec<Hand>)>
+        requires { AreAllHands self hands.items }
+        ensures words { IfOk result (λ words. Leaves (opening_of self) hands.items words.items) }
+        ensures board { IfErr result (λ kept. kept.0 ≡ self) }
+        ensures hands { IfErr result (λ kept. kept.1 ≡ hands) }
+    {
+        let count = self.layout.words() as usize;
+        let Ok(mut words) = vec![in alloc; 0u64; count] else {
+            return Err((self, hands));
+        };
+        let closed = self.end(hands);
+        for i in 0..count {
+            words[i] = closed.word(i);
+        }
+        closed.free();
+        Ok(words)
+    }
+
+    // Once all hands are one seat, it knows every event.
+    fn end(self, mut hands: Vec<Hand>) -> Closed<(), Global>
+        requires { AreAllHands self hands.items }
+        ensures words { Leaves (opening_of self) hands.items (slots_items result.words) }
+        ensures full { IsFull result.words }
+        ensures wide { slots_len result.words ≡ word_count (limits_of self.layout) }
+        ensures slotless { slots_len result.slots ≡ 0 }
+    {
+        let Hand {
+            mut seat,
+            number: _,
+            epoch: _,
+        } = hands.pop().unwrap();
+        self.join_all(&mut seat, hands);
+        let Board { words, layout: _ } = self;
+        words.close_with(seat)
+    }
+
+    // The seat takes in the hands, and has heard what each of them knew.
+    fn join_all(&self, seat: &mut Place, hands: Vec<Hand>)
+        requires table { seat.old.table_id ≡ self.now.words.shared.table_id }
+        requires opened { seat.old.me.0.opening ≡ Some (opening_of self.now) }
+        requires hands { AreOf self.now hands.items }
+        ensures table { seat.new.table_id ≡ seat.old.table_id }
+        ensures opened { seat.new.me.0.opening ≡ seat.old.me.0.opening }
+        ensures joined { IncludesAll seat.new.me.0 hands.items }
+        ensures kept { (hand : Hand) → Includes seat.old.me.0 hand → Includes seat.new.me.0 hand }
+    {
+        for hand in hands {
+            let Hand {
+                seat: other,
+                number: _,
+                epoch: _,
+            } = hand;
+            self.words.shared.join_seat::<TakesIn>(seat, other);
+        }
+    }
+}
+
+#[cfg(test)]
+mod tests {
+    use super::*;
+    use std::test::Fail;
+    use word_layout::Limits;
+
+    fn may_move_to_another_thread<T: Send>(_value: &T) {}
+
+    fn may_be_shared_by_threads<T: Sync>(_value: &T) {}
+
+    #[test]
+    fn a_new_board_hands_out_its_opening_words(rt: HostRuntime) -> Result<(), Fail> {
+        let limits = Limits {
+            callers: 3,
+            records: 2,
+            groups: 2,
+            group_size: 8,
+            slots: 1,
+            due: 1,
+            help: 1,
+            chain: 1,
+            first_version: 0,
+        };
+        let layout = limits.layout()?;
+        let (board, hands) = Board::open(rt.alloc(), &layout, &[])?;
+        may_be_shared_by_threads(&board);
+        assert_eq!(rt; (board.layout().words(), hands.len()), (97, 4));
+        for i in 0..hands.len() {
+            may_move_to_another_thread(&hands[i]);
+            assert_eq!(rt; hands[i].number() as usize, i);
+        }
+        let words = match board.close(rt.alloc(), hands) {
+            Ok(words) => words,
+            Err(_kept) => Vec::new(rt.alloc()),
+        };
+        assert_eq!(rt; words.len(), 97);
+        for i in 0..words.len() {
+            // The free head and the root, and a link from the first row to the second.
+            let expected = match i {
+                0 => 89,
+                1 => 2,
+                92 => 93,
+                _ => 0,
+            };
+            assert_eq!(rt; words[i], expected, "at {i}");
+        }
+        Ok(())
+    }
+}

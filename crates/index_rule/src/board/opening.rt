@@ -1,0 +1,76 @@
+//! A board is opened, with a hand for each caller and one for the keeper.
+ghost use Rattle.std.specs.Prelude.{◌≡◌, IfOk, [], length};
+ghost use Rattle.word_layout.specs.Layout.{limits_of};
+ghost use Rattle.index_rule.specs.Rule.{first_view};
+ghost use Rattle.index_rule.specs.Hands.{opening_of};
+ghost use Rattle.index_rule.specs.Opened.{HasNewHands};
+ghost use Rattle.index_rule.specs.Ended.{AreAllHands};
+
+use crate::board::Board;
+use crate::board::laying::laid_words;
+use crate::hand::Hand;
+use crate::plays::MakesHand;
+use crate::rule::{Place, Words};
+use atomic_table::Table;
+use index_machine::Opening;
+use std::alloc::{AllocError, Global};
+use word_layout::Layout;
+
+impl Board {
+    /// A board with its hands: one for each caller, by rising numbers, and the keeper's behind
+    /// them.
+    ///
+    /// The index is empty: there are no rows yet to begin with.
+    pub fn open(
+        alloc: Global,
+        layout: &Layout,
+        rows: &[(u64, u64)],
+    ) -> Result<(Board, Vec<Hand>), AllocError>
+        requires { rows.now ≡ [] }
+        ensures layout { IfOk result (λ opened. (opening_of opened.0).layout ≡ layout.now) }
+        ensures hands { IfOk result (λ opened. HasNewHands opened.0 opened.1.items) }
+        ensures all { IfOk result (λ opened. AreAllHands opened.0 opened.1.items) }
+    {
+        let opening = Opening { layout: *layout };
+        let laid = laid_words(alloc, &opening)?;
+        let (words, seat): (Words, _) = Table::of_words(alloc, laid.as_slice(), &opening)?;
+        let board = Board {
+            words,
+            layout: *layout,
+        };
+        let hands = board.make_hands(alloc, seat)?;
+        Ok((board, hands))
+    }
+
+    /// The layout that the board was opened with.
+    #[inline]
+    pub fn layout(&self) -> Layout
+        ensures { result ≡ (opening_of self.now).layout }
+    {
+        self.layout
+    }
+
+    fn make_hands(&self, alloc: Global, mut seat: Place) -> Result<Vec<Hand>, AllocError>
+        requires table { seat.table_id ≡ self.now.words.shared.table_id }
+        requires first { seat.me.0 ≡ first_view (opening_of self.now) }
+        requires bare { seat.me.1 ≡ [] }
+        ensures { IfOk result (λ hands. HasNewHands self.now hands.items) }
+    {
+        let mut hands = Vec::new(alloc);
+        let callers = self.layout.limits().callers;
+        for number in 0..callers {
+            let one = self.words.shared.split_seat::<MakesHand>(&mut seat);
+            hands.push(Hand {
+                seat: one,
+                number,
+                epoch: 0,
+            })?;
+        }
+        hands.push(Hand {
+            seat,
+            number: callers,
+            epoch: 0,
+        })?;
+        Ok(hands)
+    }
+}

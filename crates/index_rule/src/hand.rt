@@ -1,0 +1,30 @@
+//! What one thread steps with.
+ghost use Rattle.std.specs.Prelude.{◌≡◌, ◌%◌, ◌^◌, [], ◌∷◌};
+ghost use Rattle.index_machine.specs.Sections.{crossings};
+ghost use Rattle.index_rule.specs.Rule.{IsFollowing};
+
+use crate::rule::Place;
+
+/// The right of one caller, or of the keeper, to make steps on one board.
+///
+/// It may move to another thread. At run time it is its number and its present epoch word.
+#[derive(Drop)]
+pub struct Hand {
+    pub(crate) seat: Place,
+    pub(crate) number: u32,
+    pub(crate) epoch: u64,
+    ghost mine: { seat.me.0.numbers ≡ number ∷ [] },
+    ghost counted: { epoch ≡ crossings number seat.me.0.known % 2 ^ 64 },
+    ghost following: { IsFollowing seat.me.0 },
+    ghost bare: { seat.me.1 ≡ [] },
+}
+
+impl Hand {
+    /// A caller's number, from 0, or the number of callers for the keeper's hand.
+    #[inline]
+    pub fn number(&self) -> u32
+        ensures { result ≡ self.now.number }
+    {
+        self.number
+    }
+}
