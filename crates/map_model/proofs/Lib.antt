@@ -2,3 +2,4 @@ pub mod Pairs
 pub mod Places
 pub mod Makings
 pub mod Answering
+pub mod Histories

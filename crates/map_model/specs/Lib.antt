@@ -4,3 +4,4 @@ pub mod Answer
 pub mod PlainMap
 pub mod Fitting
 pub mod Laws
+pub mod History
