@@ -1,13 +1,15 @@
 -- The epoch words count the crossings.
 --
 -- The fact to remember: an epoch word is odd exactly while its caller is inside (counted).
-use Rattle.std.proofs.Common.{◌≡◌, ◌≢◌, ℕ, ◌+◌, ◌%◌, ◌^◌, cond, [], ◌∷◌, refl, sym, ap, ◌∙◌, arith}
+use Rattle.std.proofs.Common.{◌≡◌, ◌≢◌, ℕ, zero, suc, ◌+◌, ◌%◌, ◌^◌, cond, [], ◌∷◌, refl, sym, ap}
+use Rattle.std.proofs.Common.{◌∙◌, arith}
 use Rattle.std.specs.Prelude.{◌==◌}
 use mathlib.Core.Logic.{dite}
 use native.Mathlib.Decide.{ℕ_discrete}
 use Rattle.word_layout.specs.Words.{Epoch}
 use Rattle.index_machine.specs.declared.events.Action.{Action}
-use Rattle.index_machine.specs.declared.events.Action.TheVariants.{Enter, Leave}
+use Rattle.index_machine.specs.declared.events.Action.TheVariants.{Enter, Leave, LinkRow, Install}
+use Rattle.index_machine.specs.declared.events.InstallWord.TheVariants.{NextOf, FirstSlot}
 use Rattle.index_machine.specs.declared.opening.Opening.{Opening}
 use Rattle.index_machine.specs.Execution.{Execution, event}
 use Rattle.index_machine.specs.Words.{word}
@@ -44,6 +46,10 @@ counted_step : (o : Opening) (t : Execution) (by : ℕ) (action : Action) → Al
     IsCounted o t → IsCounted o (event by action ∷ t)
 counted_step o t by (Enter n) may old = crossed o t by n may.1 old
 counted_step o t by (Leave n) may old = crossed o t by n may.1 old
+counted_step o t by (LinkRow group place change zero next) may old = old
+counted_step o t by (LinkRow group place change (suc n) next) may old = old
+counted_step o t by (Install (NextOf left) first low high) may old = old
+counted_step o t by (Install (FirstSlot side) first low high) may old = old
 counted_step o t by action may old = old
 
 epoch_counted : (o : Opening) (t : Execution) → Valid o t → IsCounted o t

@@ -2,12 +2,14 @@
 --
 -- The fact to remember: what a hand's own events alone change stays as it is while others step
 -- (own_on).
-use Rattle.std.proofs.Common.{◌≡◌, ◌≢◌, ℕ, Bool, true, false, cond, [], ◌∷◌, ◌++◌, refl, ap, ◌∙◌, eq-eqb, ne_eqb, append_assoc}
+use Rattle.std.proofs.Common.{◌≡◌, ◌≢◌, ℕ, Bool, true, false, cond, [], ◌∷◌, ◌++◌, refl, ap, ◌∙◌}
+use Rattle.std.proofs.Common.{eq-eqb, ne_eqb, append_assoc}
 use Rattle.std.specs.Prelude.{◌==◌}
 use Rattle.index_machine.specs.declared.events.Action.{Action}
 use Rattle.index_machine.specs.declared.events.Action.TheVariants.{Enter}
 use Rattle.index_machine.specs.declared.opening.Opening.{Opening}
-use Rattle.index_machine.specs.Execution.{Execution, event, own, Without, Continues, ContinuesWithout}
+use Rattle.index_machine.specs.Execution.{Execution, event, own, Without, Continues}
+use Rattle.index_machine.specs.Execution.{ContinuesWithout}
 use Rattle.index_machine.specs.Sections.{crossings_after, crossings}
 use Rattle.index_machine.specs.ObservedHeads.{NoHead, observed_after, observed_head}
 use Rattle.index_machine.specs.Conditions.{Valid}

@@ -3,57 +3,44 @@
 -- The fact to remember: a row that was in no stack when a grace period began, and was not given
 -- back since, is one at its end (ends_observed_heads), and stays one until it is pushed
 -- (unobserved_on).
-use Rattle.std.proofs.Common.{◌≡◌, ◌≢◌, ⊎_elim, ℕ, [], ◌∷◌, ◌++◌, sym, ap, ◌∙◌}
-use mathlib.Core.Logic.{dite}
-use native.Mathlib.Decide.{ℕ_discrete}
+use Rattle.std.proofs.Common.{◌≢◌, ⊎_elim, ℕ, [], ◌∷◌, ◌++◌, sym, ap, ◌∙◌, subst}
+use Rattle.word_layout.specs.Places.{IsRow}
 use Rattle.word_layout.specs.Words.{FreeHead}
 use Rattle.index_machine.specs.declared.events.Action.{Action}
-use Rattle.index_machine.specs.declared.events.Action.TheVariants.{PopFree, PushFree}
+use Rattle.index_machine.specs.declared.events.Action.TheVariants.{PushFree}
 use Rattle.index_machine.specs.declared.opening.Opening.{Opening}
 use Rattle.index_machine.specs.Execution.{Execution, Without}
-use Rattle.index_machine.specs.Words.{word}
+use Rattle.index_machine.specs.Words.{limits, word}
 use Rattle.index_machine.specs.Sections.{IsCaller, IsKeeper, HasLeft, IsQuiescent}
-use Rattle.index_machine.specs.Rows.{Role, Unused, HeldBy, role_after, role}
+use Rattle.index_machine.specs.Rows.{Unused, role}
 use Rattle.index_machine.specs.ObservedHeads.{Observes, IsUnobserved}
 use Rattle.index_machine.specs.Conditions.{Allowed, Valid}
 use Rattle.index_machine.specs.HeadLaws.{IsNoPushOf, IsNotPushed}
-use Rattle.index_machine.proofs.Executions.{choice-same, choice-other}
-use Rattle.index_machine.proofs.Placing.{unused-held}
 use Rattle.index_machine.proofs.Linking.{top_free}
-use Rattle.index_machine.proofs.Observing.{MayLoadHead, observed_before, heads_hold}
+use Rattle.index_machine.proofs.Observing.{MayLoadHead, observed_before, heads_hold, free_role}
 use Rattle.index_machine.proofs.Barring.{Withdrawn, ShutOver, left_none, none_on}
 
--- the row at this place is in no stack
+-- the record row at this place is in no stack
 abbrev IsTaken : Opening → ℕ → Execution → Type 0
-IsTaken o place t = role o place t ≢ Unused
+IsTaken o place t = IsRow (limits o) place → role o place t ≢ Unused
 
 -- ---- a row in no stack ----
 
-taken_step : (place by : ℕ) (action : Action) (r : Role) → IsNoPushOf place action →
-    r ≢ Unused → role_after place by action r ≢ Unused
-taken_step place by (PopFree popped next) r other taken =
-    λ free. dite (ℕ_discrete popped place)
-    (λ (same : popped ≡ place).
-    unused-held (sym free ∙ choice-same popped place (HeldBy by) r same))
-    (λ (differ : popped ≢ place).
-    taken (sym (choice-other popped place (HeldBy by) r differ) ∙ free))
-taken_step place by (PushFree pushed head) r other taken =
-    λ free. taken (sym (choice-other pushed place Unused r other) ∙ free)
-taken_step place by action r other taken = taken
-
 -- it stays so while it is not pushed
-pub taken_on : (o : Opening) (place : ℕ) (newer t : Execution) → IsNotPushed place newer →
-    role o place t ≢ Unused → role o place (newer ++ t) ≢ Unused
-taken_on o place [] t others taken = taken
-taken_on o place (e ∷ newer) t others taken =
-    taken_step place e.by e.action (role o place (newer ++ t)) others.0
-    (taken_on o place newer t others.1 taken)
+taken_on : (o : Opening) (place : ℕ) (newer t : Execution) → Valid o (newer ++ t) →
+    IsNotPushed place newer → IsTaken o place t → IsTaken o place (newer ++ t)
+taken_on o place [] t valid others taken row free = taken row free
+taken_on o place (e ∷ newer) t valid others taken row free =
+    taken_on o place newer t valid.1 others.1 taken row
+    (free_role o (newer ++ t) e.by e.action valid.1 place row others.0 free)
 
-shut_over : (o : Opening) (place : ℕ) (newer t : Execution) → IsNotPushed place newer →
-    IsTaken o place t → ShutOver (IsTaken o place) newer t
-shut_over o place [] t others taken = tt
-shut_over o place (e ∷ newer) t others taken =
-    (taken_on o place newer t others.1 taken, shut_over o place newer t others.1 taken)
+shut_over : (o : Opening) (place : ℕ) (newer t : Execution) → Valid o (newer ++ t) →
+    IsNotPushed place newer → IsTaken o place t → ShutOver (IsTaken o place) newer t
+shut_over o place [] t valid others taken = tt
+shut_over o place (e ∷ newer) t valid others taken = (
+  taken_on o place newer t valid.1 others.1 taken,
+  shut_over o place newer t valid.1 others.1 taken,
+)
 
 -- and no load of the head finds it
 observing : (o : Opening) (place : ℕ) →
@@ -64,7 +51,9 @@ observing o place t by action valid may taken hand observed =
           (λ (earlier : Observes hand place t). earlier)
           (λ (loaded : MayLoadHead o hand place t).
           let some : word o t FreeHead ≢ 0 = λ e. loaded.1 (sym loaded.0 ∙ e) in
-          absurd (taken (ap (λ (p : ℕ). role o p t) (sym loaded.0) ∙ (top_free o t valid some).0)))
+          let free = top_free o t valid some in
+          absurd (taken (subst (IsRow (limits o)) loaded.0 free.1)
+          (ap (λ (p : ℕ). role o p t) (sym loaded.0) ∙ free.0)))
           before.0,
       before.1,
     )
@@ -80,7 +69,7 @@ ends_observed_head o caller place newer t valid known taken others left observed
     left_none o (λ hand t. Observes hand place t) (IsTaken o place) (observing o place)
     (λ t valid caller known observed.
     (heads_hold o t valid).inside caller place known observed)
-    newer t valid (shut_over o place newer t others taken) caller known left observed
+    newer t valid (shut_over o place newer t valid others (λ row. taken)) caller known left observed
 
 -- so once the grace period is over no caller does
 pub ends_observed_heads : (o : Opening) (place : ℕ) (newer t : Execution) → Valid o (newer ++ t) →
@@ -96,7 +85,7 @@ pub unobserved_on : (o : Opening) (place : ℕ) (newer t : Execution) → Valid 
     IsUnobserved o place (newer ++ t)
 unobserved_on o place newer t valid others taken none caller known observed =
     none_on o (λ hand t. Observes hand place t) (IsTaken o place) (observing o place)
-    newer t valid (shut_over o place newer t others taken) none caller known observed
+    newer t valid (shut_over o place newer t valid others (λ row. taken)) none caller known observed
 
 -- the keeper alone pushes
 pub others_push_none : (o : Opening) (place hand : ℕ) (newer t : Execution) → IsKeeper o hand →

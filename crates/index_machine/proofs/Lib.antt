@@ -1,8 +1,14 @@
 pub mod Executions
 pub mod Placing
+pub mod Stores
 pub mod Linking
 pub mod Counting
 pub mod Observing
 pub mod Holding
 pub mod Barring
 pub mod GracePeriods
+pub mod Refusing
+pub mod Representing
+pub mod Holders
+pub mod WordForms
+pub mod RepresentingAll

@@ -1,25 +1,37 @@
 -- The free stack is the list that is linked from the head, through the words.
 --
 -- The fact to remember: a head that is not 0 is the place of a free row (top_free).
-use Rattle.std.proofs.Common.{◌≡◌, ◌≢◌, inl, inr, ℕ, zero, suc, ◌+◌, List, [], ◌∷◌, refl, sym, ap, ◌∙◌, subst, arith, eq-eqb, ne_eqb}
+use Rattle.std.proofs.Common.{◌≡◌, ◌≢◌, inl, inr, Bool, true, false, cond, ℕ, zero, suc, ◌+◌, List}
+use Rattle.std.proofs.Common.{[], ◌∷◌, refl, sym, ap, ◌∙◌, subst, arith, eq-eqb, ne_eqb}
+use Rattle.std.specs.Prelude.{◌==◌, ◌&&◌}
 use mathlib.Core.Logic.{dite}
 use native.Mathlib.Decide.{ℕ_discrete}
 use Rattle.word_layout.specs.declared.places.Part.{Part}
 use Rattle.word_layout.specs.declared.places.Part.TheVariants.{Key, Value, State, Link}
+use Rattle.word_layout.specs.declared.state.State.TheVariants as state
+use Rattle.word_layout.specs.State.{word_of_state}
 use Rattle.word_layout.specs.Addresses.{row_address}
 use Rattle.word_layout.specs.Places.{IsRow, FitsPart, rows_from}
 use Rattle.word_layout.specs.Words.{Word, FreeHead, PlaceWord}
 use Rattle.word_layout.proofs.RowPlaces.{next_row-inner, next_row-last, next_row-fits, row-nonzero}
 use Rattle.index_machine.specs.declared.events.Action.{Action}
-use Rattle.index_machine.specs.declared.events.Action.TheVariants.{Enter, Leave, PopFree, StorePrivate, PushFree}
+use Rattle.index_machine.specs.declared.events.Action.TheVariants.{PopFree, StorePrivate, PushFree}
+use Rattle.index_machine.specs.declared.events.Action.TheVariants.{Lock, StoreValue, Unlock}
+use Rattle.index_machine.specs.declared.events.Action.TheVariants.{LinkRow}
+use Rattle.index_machine.specs.declared.events.Action.TheVariants.{StoreArray, StoreRedirect}
+use Rattle.index_machine.specs.declared.events.Action.TheVariants.{Install}
+use Rattle.index_machine.specs.declared.events.Action.TheVariants.{Close, Copy, StoreDirect}
+use Rattle.index_machine.specs.declared.events.Action.TheVariants.{StoreMoved}
+use Rattle.index_machine.specs.declared.events.InstallWord.TheVariants.{NextOf, FirstSlot}
 use Rattle.index_machine.specs.declared.opening.Opening.{Opening}
 use Rattle.index_machine.specs.Execution.{Execution, event}
 use Rattle.index_machine.specs.Lists.{In}
 use Rattle.index_machine.specs.Words.{limits, word}
-use Rattle.index_machine.specs.Rows.{Unused, role, below_top, free_stack}
+use Rattle.index_machine.specs.Rows.{Unused, role, role_key, below_top, free_stack}
 use Rattle.index_machine.specs.Conditions.{Allowed, Valid}
 use Rattle.index_machine.specs.RowLaws.{Chain, IsLinked}
-use Rattle.index_machine.proofs.Placing.{placed, unused_apart}
+use Rattle.index_machine.proofs.Placing.{placed, unused-held, array_not_row}
+use Rattle.index_machine.proofs.Stores.{store_apart, keyless_words}
 
 -- a private store leaves the words of every other row
 pub private_apart : (o : Opening) (t : Execution) (by stored : ℕ) (at : Part) (value place : ℕ)
@@ -85,23 +97,38 @@ linked_push o t by pushed head may chain =
           (subst (λ (n : ℕ). Chain (word o t) n (free_stack o t)) (sym link) chain),
     )
 
+-- an action that leaves the head and the stack leaves the links of the free rows
+links_same : (o : Opening) (t : Execution) (by : ℕ) (action : Action) → Valid o t →
+    Allowed o t by action → word o (event by action ∷ t) FreeHead ≡ word o t FreeHead →
+    free_stack o (event by action ∷ t) ≡ free_stack o t → IsLinked o t →
+    IsLinked o (event by action ∷ t)
+links_same o t by action valid may head stack chain =
+    let later : Execution = event by action ∷ t in
+    subst (λ (n : ℕ). Chain (word o later) n (free_stack o later)) (sym head)
+    (subst (Chain (word o later) (word o t FreeHead)) (sym stack)
+    (chain_same (word o t) (word o later) (word o t FreeHead) (free_stack o t)
+    (λ p h.
+    let free = (placed o t valid).free p h in
+    keyless_words o t by action may p free.1 (ap role_key free.0)
+    (λ mine. unused-held (sym free.0 ∙ mine)) Link)
+    chain))
+
 linked_step : (o : Opening) (t : Execution) (by : ℕ) (action : Action) → Valid o t →
     Allowed o t by action → IsLinked o t → IsLinked o (event by action ∷ t)
-linked_step o t by (Enter n) valid may chain =
-    chain_same (word o t) (word o (event by (Enter n) ∷ t)) _ _ (λ p h. refl) chain
-linked_step o t by (Leave n) valid may chain =
-    chain_same (word o t) (word o (event by (Leave n) ∷ t)) _ _ (λ p h. refl) chain
 linked_step o t by (PopFree popped next) valid may chain =
     linked_pop o t by popped next may chain
 linked_step o t by (PushFree pushed head) valid may chain =
     linked_push o t by pushed head may chain
-linked_step o t by (StorePrivate stored part value) valid may chain =
-    chain_same (word o t) (word o (event by (StorePrivate stored part value) ∷ t))
-    (word o t FreeHead) (free_stack o t)
-    (λ p h. private_apart o t by stored part value p Link
-    (unused_apart o t by stored p may.held ((placed o t valid).free p h).0))
-    chain
-linked_step o t by action valid may chain = chain
+linked_step o t by (LinkRow group q change zero next) valid may chain =
+    links_same o t by (LinkRow group q change zero next) valid may refl refl chain
+linked_step o t by (LinkRow group q change (suc n) next) valid may chain =
+    links_same o t by (LinkRow group q change (suc n) next) valid may refl refl chain
+linked_step o t by (Install (NextOf left) first low high) valid may chain =
+    links_same o t by (Install (NextOf left) first low high) valid may refl refl chain
+linked_step o t by (Install (FirstSlot side) first low high) valid may chain =
+    links_same o t by (Install (FirstSlot side) first low high) valid may refl refl chain
+linked_step o t by action valid may chain =
+    links_same o t by action valid may refl refl chain
 
 pub linked : (o : Opening) (t : Execution) → Valid o t → IsLinked o t
 linked o [] valid = chain_first o (limits o).records refl
@@ -151,10 +178,22 @@ stored_fits o t by Value value place fits old = rw (eq-eqb place place refl) old
 stored_fits o t by State value place fits old = rw (eq-eqb place place refl) old
 stored_fits o t by Link value place fits old = rw (eq-eqb place place refl) fits
 
-links_step : (o : Opening) (t : Execution) (by : ℕ) (action : Action) → Allowed o t by action →
-    (place : ℕ) → FitsPart (limits o) Link (word o t (PlaceWord place Link)) →
+-- a store in another part of a place leaves its link
+other_part : (b : Bool) (value n : ℕ) → cond (b && false) value n ≡ n
+other_part true value n = refl
+other_part false value n = refl
+
+-- a store that fits leaves a link that fits
+fits_if : (o : Opening) (b : Bool) (value n : ℕ) → FitsPart (limits o) Link value →
+    FitsPart (limits o) Link n → FitsPart (limits o) Link (cond b value n)
+fits_if o true value n new old = new
+fits_if o false value n new old = old
+
+links_step : (o : Opening) (t : Execution) (by : ℕ) (action : Action) → Valid o t →
+    Allowed o t by action → (place : ℕ) → IsRow (limits o) place →
+    FitsPart (limits o) Link (word o t (PlaceWord place Link)) →
     FitsPart (limits o) Link (word o (event by action ∷ t) (PlaceWord place Link))
-links_step o t by (StorePrivate stored part value) may place old =
+links_step o t by (StorePrivate stored part value) valid may place row old =
     dite (ℕ_discrete stored place)
     (λ (same : stored ≡ place).
     subst
@@ -164,10 +203,47 @@ links_step o t by (StorePrivate stored part value) may place old =
     (λ (differ : stored ≢ place).
     subst (FitsPart (limits o) Link)
     (sym (private_apart o t by stored part value place Link differ)) old)
-links_step o t by action may place old = old
+links_step o t by (Lock q expected) valid may place row old =
+    subst (FitsPart (limits o) Link)
+    (sym (other_part (q == place) (expected + 4) (word o t (PlaceWord place Link)))) old
+links_step o t by (StoreValue q value) valid may place row old =
+    subst (FitsPart (limits o) Link)
+    (sym (other_part (q == place) value (word o t (PlaceWord place Link)))) old
+links_step o t by (Unlock q removed change stored) valid may place row old =
+    subst (FitsPart (limits o) Link)
+    (sym (other_part (q == place) stored (word o t (PlaceWord place Link)))) old
+links_step o t by (LinkRow group q change zero next) valid may place row old = old
+links_step o t by (LinkRow group q change (suc n) next) valid may place row old =
+    fits_if o ((suc n == place) && true) q (word o t (PlaceWord place Link))
+    (inr ((placed o t valid).held by q may.mine).0) old
+links_step o t by (StoreArray group q part value) valid may place row old =
+    subst (FitsPart (limits o) Link)
+    (sym (store_apart q place value (word o t (PlaceWord place Link)) part Link
+    (λ e. array_not_row (limits o) group q may.in_array.group_exists may.in_array.in_array
+    (subst (IsRow (limits o)) (sym e) row)))) old
+links_step o t by (StoreRedirect group q k to) valid may place row old =
+    subst (FitsPart (limits o) Link)
+    (sym (other_part (q == place) (word_of_state (state.Redirect to))
+    (word o t (PlaceWord place Link)))) old
+links_step o t by (Install (NextOf left) first low high) valid may place row old = old
+links_step o t by (Install (FirstSlot side) first low high) valid may place row old = old
+links_step o t by (Close q expected) valid may place row old =
+    subst (FitsPart (limits o) Link)
+    (sym (other_part (q == place) (expected + 4) (word o t (PlaceWord place Link)))) old
+links_step o t by (Copy q value) valid may place row old =
+    subst (FitsPart (limits o) Link)
+    (sym (other_part (q == place) value (word o t (PlaceWord place Link)))) old
+links_step o t by (StoreDirect q from k removed stored) valid may place row old =
+    subst (FitsPart (limits o) Link)
+    (sym (other_part (q == place) stored (word o t (PlaceWord place Link)))) old
+links_step o t by (StoreMoved q) valid may place row old =
+    subst (FitsPart (limits o) Link)
+    (sym (other_part (q == place) (word_of_state state.Moved)
+    (word o t (PlaceWord place Link)))) old
+links_step o t by action valid may place row old = old
 
 pub links_fit : (o : Opening) (t : Execution) → Valid o t → (place : ℕ) → IsRow (limits o) place →
     FitsPart (limits o) Link (word o t (PlaceWord place Link))
 links_fit o [] valid place row = next_row-fits (limits o) place row
 links_fit o (e ∷ t) valid place row =
-    links_step o t e.by e.action valid.0 place (links_fit o t valid.1 place row)
+    links_step o t e.by e.action valid.1 valid.0 place row (links_fit o t valid.1 place row)

@@ -1,25 +1,36 @@
 -- What a caller observed of the free stack in its read section.
 --
 -- The fact to remember: whenever the row is free, its link is the one that was loaded (heads_hold).
-use Rattle.std.proofs.Common.{◌≡◌, ◌≢◌, ◌⊎◌, inl, inr, ⊎_elim, ℕ, zero, suc, ◌%◌, true, [], ◌∷◌, refl, sym, ap, ◌∙◌, subst, arith}
+use Rattle.std.proofs.Common.{◌≡◌, ◌≢◌, ◌⊎◌, inl, inr, ⊎_elim, ℕ, zero, suc, ◌%◌, Bool, true, false}
+use Rattle.std.proofs.Common.{cond, [], ◌∷◌, refl, sym, ap, ◌∙◌, subst, arith}
+use Rattle.std.specs.Prelude.{◌==◌}
 use mathlib.Core.Logic.{dite}
+use Rattle.map_model.specs.Map.{key_of}
 use native.Mathlib.Decide.{ℕ_discrete}
 use Rattle.word_layout.specs.declared.places.Part.TheVariants.{Link}
 use Rattle.word_layout.specs.Places.{IsRow}
 use Rattle.word_layout.specs.Words.{FreeHead, PlaceWord}
 use Rattle.index_machine.specs.declared.events.Action.{Action}
-use Rattle.index_machine.specs.declared.events.Action.TheVariants.{Enter, Leave, LoadFree, LoadFreeLink, PopFree, StorePrivate, PushFree}
+use Rattle.index_machine.specs.declared.events.Action.TheVariants.{Enter, Leave, LoadFree}
+use Rattle.index_machine.specs.declared.events.Action.TheVariants.{LoadFreeLink, PopFree, PushFree}
+use Rattle.index_machine.specs.declared.events.Action.TheVariants.{LinkRow, Retire, StoreRedirect}
+use Rattle.index_machine.specs.declared.events.Action.TheVariants.{NewGroup}
 use Rattle.index_machine.specs.declared.opening.Opening.{Opening}
 use Rattle.index_machine.specs.Execution.{Execution, event}
 use Rattle.index_machine.specs.Words.{limits, word}
 use Rattle.index_machine.specs.Sections.{IsCaller, IsKeeper, IsInside, crossings_after, crossings}
-use Rattle.index_machine.specs.Rows.{Unused, HeldBy, role}
-use Rattle.index_machine.specs.ObservedHeads.{ObservedHead, NoHead, HeadAndLink, head_of, observed_after, observed_head, IsObservedRow, Observes}
+use Rattle.index_machine.specs.Rows.{Role, Unused, HeldBy, InArray, InBuffer, role}
+use Rattle.index_machine.specs.Rows.{role_key}
+use Rattle.index_machine.specs.ObservedHeads.{ObservedHead, NoHead, HeadAndLink, head_of}
+use Rattle.index_machine.specs.ObservedHeads.{observed_after, observed_head, IsObservedRow}
+use Rattle.index_machine.specs.ObservedHeads.{Observes}
 use Rattle.index_machine.specs.Conditions.{IsReading, MayLoadFree, Allowed, Valid}
 use Rattle.index_machine.specs.HeadLaws.{HeadsHold, IsNoPushOf}
-use Rattle.index_machine.proofs.Executions.{choice-same, choice-other, crossings_on, crossings_own, observed_head_on, observed_head_own}
-use Rattle.index_machine.proofs.Placing.{unused-held, unused_apart}
-use Rattle.index_machine.proofs.Linking.{private_apart, top_free}
+use Rattle.index_machine.proofs.Executions.{choice-same, choice-other, crossings_on, crossings_own}
+use Rattle.index_machine.proofs.Executions.{observed_head_on, observed_head_own}
+use Rattle.index_machine.proofs.Placing.{unused-held, emptied_unused, array_no_row}
+use Rattle.index_machine.proofs.Stores.{keyless_words}
+use Rattle.index_machine.proofs.Linking.{top_free}
 
 -- ---- observed heads ----
 
@@ -93,25 +104,50 @@ observed_before o t by action may hand place observed =
 
 -- ---- the link of a row that is free ----
 
--- a row that is free after an action that does not push it was free before, with the same link
-free_before : (o : Opening) (t : Execution) (by : ℕ) (action : Action) → Allowed o t by action →
-    (place : ℕ) → IsNoPushOf place action → role o place (event by action ∷ t) ≡ Unused →
-    (role o place t ≡ Unused)
-    × (word o (event by action ∷ t) (PlaceWord place Link) ≡ word o t (PlaceWord place Link))
-free_before o t by (PopFree popped next) may place other free =
+free_set : (q p : ℕ) (u r : Role) → (u ≡ Unused → ⊥) → cond (q == p) u r ≡ Unused → r ≡ Unused
+free_set q p u r some e = go (q == p) e
+  where
+    go : (b : Bool) → cond b u r ≡ Unused → r ≡ Unused
+    go true e = absurd (some e)
+    go false e = e
+
+-- a row that is free after an action that does not push it was free before
+pub free_role : (o : Opening) (t : Execution) (by : ℕ) (action : Action) → Valid o t →
+    (place : ℕ) → IsRow (limits o) place → IsNoPushOf place action →
+    role o place (event by action ∷ t) ≡ Unused → role o place t ≡ Unused
+free_role o t by (PopFree popped next) valid place row other free =
     dite (ℕ_discrete popped place)
     (λ (same : popped ≡ place).
     unused-held (sym free ∙ choice-same popped place (HeldBy by) (role o place t) same))
     (λ (differ : popped ≢ place).
-    (sym (choice-other popped place (HeldBy by) (role o place t) differ) ∙ free, refl))
-free_before o t by (PushFree pushed head) may place other free =
-    (sym (choice-other pushed place Unused (role o place t) other) ∙ free, refl)
-free_before o t by (StorePrivate stored part value) may place other free = (
-  free,
-  private_apart o t by stored part value place Link
-      (unused_apart o t by stored place may.held free),
-)
-free_before o t by action may place other free = (free, refl)
+    sym (choice-other popped place (HeldBy by) (role o place t) differ) ∙ free)
+free_role o t by (PushFree pushed head) valid place row other free =
+    sym (choice-other pushed place Unused (role o place t) other) ∙ free
+free_role o t by (LinkRow group q change before next) valid place row other free =
+    free_set q place (InBuffer group (key_of change)) (role o place t) (λ e. let bad = e in cc) free
+free_role o t by (Retire q next) valid place row other free =
+    free_set q place (HeldBy by) (role o place t) (λ e. let bad = e in cc) free
+free_role o t by (StoreRedirect group q k to) valid place row other free =
+    free_set q place (InArray group k) (role o place t) (λ e. let bad = e in cc) free
+free_role o t by (NewGroup group low high first) valid place row other free =
+    ⊎_elim (λ (z : role o place t ≡ Unused). z)
+    (λ (z : (g : ℕ) × (k : ℕ) × (role o place t ≡ InArray g k)).
+    absurd (array_no_row o t valid place z.0 z.1 z.2 row))
+    (emptied_unused group (role o place t) free)
+free_role o t by action valid place row other free = free
+
+-- and its link is the same
+free_before : (o : Opening) (t : Execution) (by : ℕ) (action : Action) → Valid o t →
+    Allowed o t by action → (place : ℕ) → IsRow (limits o) place → IsNoPushOf place action →
+    role o place (event by action ∷ t) ≡ Unused →
+    (role o place t ≡ Unused)
+    × (word o (event by action ∷ t) (PlaceWord place Link) ≡ word o t (PlaceWord place Link))
+free_before o t by action valid may place row other free =
+    let before = free_role o t by action valid place row other free in (
+      before,
+      keyless_words o t by action may place row (ap role_key before)
+          (λ mine. unused-held (sym before ∙ mine)) Link,
+    )
 
 -- nobody pushes a row that a caller observes
 observed-not_pushed : (o : Opening) (t : Execution) (by : ℕ) (action : Action) →
@@ -122,40 +158,43 @@ observed-not_pushed o t by (PushFree pushed head) may caller place known observe
 observed-not_pushed o t by action may caller place known observed = tt
 
 -- a link that was loaded before the action
-link_kept : (o : Opening) (t : Execution) (by : ℕ) (action : Action) → Allowed o t by action →
+link_kept : (o : Opening) (t : Execution) (by : ℕ) (action : Action) → Valid o t →
+    Allowed o t by action →
     HeadsHold o t → (caller place n : ℕ) → IsCaller o caller →
     observed_head caller t ≡ HeadAndLink place n → role o place (event by action ∷ t) ≡ Unused →
     word o (event by action ∷ t) (PlaceWord place Link) ≡ n
-link_kept o t by action may old caller place n known is free =
+link_kept o t by action valid may old caller place n known is free =
     let observed : Observes caller place t =
     observed-head_and_link place n (observed_head caller t) is
     in
-    let before = free_before o t by action may place
+    let before = free_before o t by action valid may place (old.row caller place known observed)
     (observed-not_pushed o t by action may caller place known observed) free
     in
     before.1 ∙ old.link caller place n known is before.0
 
-link_own : (o : Opening) (t : Execution) (by : ℕ) (action : Action) → Allowed o t by action →
+link_own : (o : Opening) (t : Execution) (by : ℕ) (action : Action) → Valid o t →
+    Allowed o t by action →
     HeadsHold o t → (place n : ℕ) → IsCaller o by →
     observed_after true action (observed_head by t) ≡ HeadAndLink place n →
     role o place (event by action ∷ t) ≡ Unused →
     word o (event by action ∷ t) (PlaceWord place Link) ≡ n
-link_own o t by (Enter m) may old place n known is free = no_head-link is
-link_own o t by (Leave m) may old place n known is free = no_head-link is
-link_own o t by (PopFree popped next) may old place n known is free = no_head-link is
-link_own o t by (LoadFree found) may old place n known is free = head_of-link found place n is
-link_own o t by (LoadFreeLink loaded found) may old place n known is free =
+link_own o t by (Enter m) valid may old place n known is free = no_head-link is
+link_own o t by (Leave m) valid may old place n known is free = no_head-link is
+link_own o t by (PopFree popped next) valid may old place n known is free = no_head-link is
+link_own o t by (LoadFree found) valid may old place n known is free = head_of-link found place n is
+link_own o t by (LoadFreeLink loaded found) valid may old place n known is free =
     let same = head_and_link-same is in
     ap (λ (p : ℕ). word o t (PlaceWord p Link)) (sym same.0) ∙ may.2 ∙ same.1
-link_own o t by action may old place n known is free =
-    link_kept o t by action may old by place n known is free
+link_own o t by action valid may old place n known is free =
+    link_kept o t by action valid may old by place n known is free
 
-link_step : (o : Opening) (t : Execution) (by : ℕ) (action : Action) → Allowed o t by action →
+link_step : (o : Opening) (t : Execution) (by : ℕ) (action : Action) → Valid o t →
+    Allowed o t by action →
     HeadsHold o t → (caller place n : ℕ) → IsCaller o caller →
     observed_head caller (event by action ∷ t) ≡ HeadAndLink place n →
     role o place (event by action ∷ t) ≡ Unused →
     word o (event by action ∷ t) (PlaceWord place Link) ≡ n
-link_step o t by action may old caller place n known is free =
+link_step o t by action valid may old caller place n known is free =
     let later : Execution = event by action ∷ t in
     dite (ℕ_discrete by caller)
     (λ (same : by ≡ caller).
@@ -163,9 +202,10 @@ link_step o t by action may old caller place n known is free =
     let head : observed_head by later ≡ HeadAndLink place n =
     ap (λ (h : ℕ). observed_head h later) same ∙ is
     in
-    link_own o t by action may old place n mine (sym (observed_head_own by action t) ∙ head) free)
+    link_own o t by action valid may old place n mine
+    (sym (observed_head_own by action t) ∙ head) free)
     (λ (differ : by ≢ caller).
-    link_kept o t by action may old caller place n known
+    link_kept o t by action valid may old caller place n known
     (sym (observed_head_on caller (event by action ∷ []) t (differ, tt)) ∙ is) free)
 
 -- ---- what the callers observed ----
@@ -197,7 +237,7 @@ heads_step o t by action valid may old =
           let some : word o t FreeHead ≢ 0 = λ e. loaded.1 (sym loaded.0 ∙ e) in
           subst (IsRow (limits o)) loaded.0 (top_free o t valid some).1)
           (observed_before o t by action may caller place observed).0;
-      link = link_step o t by action may old;
+      link = link_step o t by action valid may old;
     }
 
 pub heads_hold : (o : Opening) (t : Execution) → Valid o t → HeadsHold o t

@@ -9,13 +9,45 @@ use Rattle.index_machine.specs.declared.events.Action.TheVariants.{LoadEpoch, En
 use Rattle.index_machine.specs.declared.events.Action.TheVariants.{LoadFree, LoadFreeLink, PopFree}
 use Rattle.index_machine.specs.declared.events.Action.TheVariants.{FailPop, StorePrivate}
 use Rattle.index_machine.specs.declared.events.Action.TheVariants.{PushFree, FailPush}
+use Rattle.index_machine.specs.declared.events.Action.TheVariants.{LoadState, LoadValue, LoadKey}
+use Rattle.index_machine.specs.declared.events.Action.TheVariants.{Lock}
+use Rattle.index_machine.specs.declared.events.Action.TheVariants.{FailLock, StoreValue, Unlock}
+use Rattle.index_machine.specs.declared.events.Action.TheVariants.{LoadHead, LoadLink, LinkRow}
+use Rattle.index_machine.specs.declared.events.Action.TheVariants.{FailLink}
+use Rattle.index_machine.specs.declared.events.Action.TheVariants.{Retire, LoadHeader, LoadNext}
+use Rattle.index_machine.specs.declared.events.Action.TheVariants.{LoadPhase, Freeze, Thaw}
+use Rattle.index_machine.specs.declared.events.Action.TheVariants.{StoreHeader}
+use Rattle.index_machine.specs.declared.events.Action.TheVariants.{NewGroup, StoreArray}
+use Rattle.index_machine.specs.declared.events.Action.TheVariants.{StoreRedirect}
+use Rattle.index_machine.specs.declared.events.Action.TheVariants.{StoreOpened, Install, StoreSlot}
+use Rattle.index_machine.specs.declared.events.Action.TheVariants.{Close, Copy, StoreDirect}
+use Rattle.index_machine.specs.declared.events.Action.TheVariants.{StoreMoved}
+use Rattle.index_machine.specs.declared.events.Action.TheVariants.{LoadRoot, LoadSlotPivot}
+use Rattle.index_machine.specs.declared.events.Action.TheVariants.{LoadSlotGroup, StoreUnusedPivot}
+use Rattle.index_machine.specs.declared.events.Action.TheVariants.{StoreUnusedGroup, StoreRoot}
 use Rattle.index_machine.specs.declared.opening.Opening.{Opening}
 use Rattle.index_machine.specs.Execution.{Execution}
 use Rattle.index_machine.specs.Words.{limits, word}
 use Rattle.index_machine.specs.Sections.{IsCaller, IsKeeper, IsHand}
 use Rattle.index_machine.specs.Sections.{IsInside, IsOutside, crossings}
-use Rattle.index_machine.specs.Rows.{Holds, HoldsNone, free_stack}
+pub use Rattle.index_machine.specs.Sections.{IsReading}
+use Rattle.index_machine.specs.Rows.{Unused, role, Holds, HoldsNone, free_stack}
 use Rattle.index_machine.specs.ObservedHeads.{Observes, IsUnobserved}
+use Rattle.index_machine.specs.Forms.{IsLockedBy, without_lock, state_word}
+use Rattle.index_machine.specs.Places.{form}
+use Rattle.index_machine.specs.RecordConditions.{HoldsNoLock, HasKey, MayLoadState, MayLoadValue}
+use Rattle.index_machine.specs.RecordConditions.{MayLoadKey}
+use Rattle.index_machine.specs.RecordConditions.{MayLock, MayFailLock, MayUnlock, MayLoadHead}
+use Rattle.index_machine.specs.RecordConditions.{MayLoadLink, MayLink, MayFailLink, MayRetire}
+use Rattle.index_machine.specs.RebuildConditions.{MayLoadHeader, MayLoadNext, MayLoadPhase}
+use Rattle.index_machine.specs.RebuildConditions.{MayFreeze, MayThaw, MayFillHeader, MayBegin}
+use Rattle.index_machine.specs.RebuildConditions.{MayFillArray}
+use Rattle.index_machine.specs.RebuildConditions.{MayRedirect, MayOpen, MayInstall, MayStoreSlot}
+use Rattle.index_machine.specs.RebuildConditions.{MayClose, MayCopy, MayDirect, MayMove}
+use Rattle.index_machine.specs.RebuildConditions.{MayLoadRoot}
+use Rattle.index_machine.specs.RebuildConditions.{MayLoadSlotPivot, MayLoadSlotGroup}
+use Rattle.index_machine.specs.RebuildConditions.{MayStoreUnused}
+use Rattle.index_machine.specs.RebuildConditions.{MayStoreRoot}
 
 -- ---- what a hand must have done before ----
 
@@ -24,15 +56,11 @@ pub record MayEnter (o : Opening) (hand : ℕ) (t : Execution) : Type 0 where
   pub caller : IsCaller o hand
   pub outside : IsOutside hand t
 
--- the hand may leave its read section
+-- the hand may leave its read section: it holds no version lock
 pub record MayLeave (o : Opening) (hand : ℕ) (t : Execution) : Type 0 where
   pub caller : IsCaller o hand
   pub inside : IsInside hand t
-
--- the hand works inside a read section
-pub record IsReading (o : Opening) (hand : ℕ) (t : Execution) : Type 0 where
-  pub caller : IsCaller o hand
-  pub inside : IsInside hand t
+  pub holds_none : HoldsNoLock o hand t
 
 -- the hand may load the head of the free stack
 abbrev pub MayLoadFree : Opening → ℕ → Execution → Type 0
@@ -54,10 +82,11 @@ pub record MayStorePrivate (o : Opening) (hand place : ℕ) (part : Part) (value
 
 -- ---- the free stack ----
 
--- the row is the top of the free stack, and its link holds the next one
+-- the row is the top of the free stack and nobody's, and its link holds the next one
 pub record IsTop (o : Opening) (place next : ℕ) (t : Execution) : Type 0 where
   pub rest : List ℕ
   pub top : free_stack o t ≡ place ∷ rest
+  pub unused : role o place t ≡ Unused
   pub link : word o t (PlaceWord place Link) ≡ next
 
 -- the head is another than the one that the hand observed
@@ -99,6 +128,45 @@ Allowed o t hand (FailPop expected found) = MayFailPop o hand expected found t
 Allowed o t hand (StorePrivate place part value) = MayStorePrivate o hand place part value t
 Allowed o t hand (PushFree place head) = MayPush o hand place head t
 Allowed o t hand (FailPush place expected found) = MayFailPush o hand place expected found t
+Allowed o t hand (LoadState place found) = MayLoadState o hand place found t
+Allowed o t hand (LoadValue place found) = MayLoadValue o hand place found t
+Allowed o t hand (LoadKey place found) = MayLoadKey o hand place found t
+Allowed o t hand (Lock place expected) = MayLock o hand place expected t
+Allowed o t hand (FailLock place expected found) = MayFailLock o hand place expected found t
+Allowed o t hand (StoreValue place value) =
+    IsCaller o hand × IsLockedBy hand (form o place t) × HasKey o place t
+Allowed o t hand (Unlock place removed d stored) =
+    IsCaller o hand × MayUnlock o t hand place removed d
+    × (stored ≡ state_word (without_lock removed (form o place t)))
+Allowed o t hand (LoadHead group found) = MayLoadHead o hand group found t
+Allowed o t hand (LoadLink group place found) = MayLoadLink o hand group place found t
+Allowed o t hand (LinkRow group place d before next) = MayLink o t hand group place d before next
+Allowed o t hand (FailLink group before expected found) =
+    MayFailLink o hand group before expected found t
+Allowed o t hand (Retire place next) = MayRetire o t hand place next
+Allowed o t hand (LoadHeader group which found) = MayLoadHeader o hand group which found t
+Allowed o t hand (LoadNext group found) = MayLoadNext o hand group found t
+Allowed o t hand (LoadPhase group found) = MayLoadPhase o hand group found t
+Allowed o t hand (Freeze group) = MayFreeze o hand group t
+Allowed o t hand (Thaw group) = MayThaw o hand group t
+Allowed o t hand (StoreHeader group which value) = MayFillHeader o t hand group which
+Allowed o t hand (NewGroup group low high first) = MayBegin o t hand group low high first
+Allowed o t hand (StoreArray group place which value) = MayFillArray o t hand group place
+Allowed o t hand (StoreRedirect group place k to) = MayRedirect o t hand group place k to
+Allowed o t hand (StoreOpened group first) = MayOpen o t hand group first
+Allowed o t hand (Install spot lead low high) = MayInstall o t hand spot lead low high
+Allowed o t hand (StoreSlot side i group) = MayStoreSlot o t hand side i group
+Allowed o t hand (Close place expected) = MayClose o t hand place expected
+Allowed o t hand (Copy place value) = MayCopy o t hand place
+Allowed o t hand (StoreDirect place from k removed stored) =
+    MayDirect o t hand place from k removed stored
+Allowed o t hand (StoreMoved place) = MayMove o t hand place
+Allowed o t hand (LoadRoot found) = MayLoadRoot o hand found t
+Allowed o t hand (LoadSlotPivot side i found) = MayLoadSlotPivot o hand side i found t
+Allowed o t hand (LoadSlotGroup side i found) = MayLoadSlotGroup o hand side i found t
+Allowed o t hand (StoreUnusedPivot side i pivot) = MayStoreUnused o t hand side i
+Allowed o t hand (StoreUnusedGroup side i group) = MayStoreUnused o t hand side i
+Allowed o t hand (StoreRoot stored) = MayStoreRoot o t hand stored
 
 -- each event met its condition when it was made, and is that of a hand
 abbrev pub Valid : Opening → Execution → Type 0

@@ -9,13 +9,14 @@ use Rattle.index_machine.specs.Execution.{Execution, Without}
 use Rattle.index_machine.specs.Lists.{In, AreDistinct}
 use Rattle.index_machine.specs.Words.{limits, word}
 use Rattle.index_machine.specs.Sections.{IsCaller, IsHand}
-use Rattle.index_machine.specs.Rows.{Unused, role, Holds, free_stack}
+use Rattle.index_machine.specs.Rows.{Unused, InArray, InBuffer, role, Holds, free_stack}
+use Rattle.index_machine.specs.RebuildConditions.{IsArrayPlaceOf}
 use Rattle.index_machine.specs.Conditions.{Valid}
 
 -- ---- whose each row is ----
 
--- each record row is in just one place: on the free stack, there once, or in the one hand that
--- holds it
+-- each record row is in just one place: on the free stack, there once, in the one hand that holds
+-- it, or in one buffer
 pub record RowsPlaced (o : Opening) (t : Execution) : Type 0 where
   pub free : (place : ℕ) → In place (free_stack o t) →
       (role o place t ≡ Unused) × IsRow (limits o) place
@@ -26,6 +27,10 @@ pub record RowsPlaced (o : Opening) (t : Execution) : Type 0 where
   -- a caller holds one row at most
   pub one : (caller place other : ℕ) → IsCaller o caller → Holds o caller place t →
       Holds o caller other t → place ≡ other
+  pub buffered : (group k place : ℕ) → role o place t ≡ InBuffer group k → IsRow (limits o) place
+  -- a place in an array is none of the rows
+  pub arrayed : (group k place : ℕ) → role o place t ≡ InArray group k →
+      IsArrayPlaceOf o group place
 
 -- while others step, a row in a hand stays there and keeps its words
 abbrev pub KeepsHeld : Opening → ℕ → ℕ → Execution → Execution → Type 0

@@ -1,18 +1,40 @@
--- Whose each record row is, and the free stack.
-use Rattle.std.specs.Prelude.{◌≡◌, ◌≢◌, ℕ, cond, ◌==◌, List, [], ◌∷◌}
+-- Whose each record place is, and the free stack.
+--
+-- The fact to remember: a place that is in a group has a key.
+use Rattle.std.specs.Prelude.{◌≡◌, ◌≢◌, ℕ, cond, ◌==◌, Option, Some, None, List, [], ◌∷◌}
+use Rattle.map_model.specs.Map.{key_of}
 use Rattle.word_layout.specs.Places.{rows_from}
 use Rattle.index_machine.specs.declared.events.Action.{Action}
 use Rattle.index_machine.specs.declared.events.Action.TheVariants.{PopFree, PushFree}
+use Rattle.index_machine.specs.declared.events.Action.TheVariants.{LinkRow, Retire}
+use Rattle.index_machine.specs.declared.events.Action.TheVariants.{StoreRedirect, NewGroup}
 use Rattle.index_machine.specs.declared.opening.Opening.{Opening}
 use Rattle.index_machine.specs.Execution.{Execution}
 use Rattle.index_machine.specs.Words.{limits}
 
--- ---- whose a row is ----
+-- ---- whose a place is ----
 
--- whose a place is: nobody's, as that of a free row, or a hand's own
+-- whose a place is: nobody's, as that of a free row; a hand's own; or of the array of a group, or
+-- of its buffer, for a key
 pub data Role : Type 0 where
   Unused : Role
   HeldBy : ℕ → Role
+  InArray : ℕ → ℕ → Role
+  InBuffer : ℕ → ℕ → Role
+
+-- the key of a place that is in a group
+abbrev pub role_key : Role → Option ℕ
+role_key Unused = None
+role_key (HeldBy hand) = None
+role_key (InArray group k) = Some k
+role_key (InBuffer group k) = Some k
+
+-- a place of this group's array is nobody's
+abbrev pub emptied : ℕ → Role → Role
+emptied group Unused = Unused
+emptied group (HeldBy hand) = HeldBy hand
+emptied group (InArray g k) = cond (g == group) Unused (InArray g k)
+emptied group (InBuffer g k) = InBuffer g k
 
 -- whose the place is as the table is opened: all record rows are free
 abbrev pub opening_role : Opening → ℕ → Role
@@ -22,6 +44,11 @@ opening_role o place = Unused
 abbrev pub role_after : ℕ → ℕ → Action → Role → Role
 role_after place hand (PopFree popped next) r = cond (popped == place) (HeldBy hand) r
 role_after place hand (PushFree pushed head) r = cond (pushed == place) Unused r
+role_after place hand (LinkRow group linked change before next) r =
+    cond (linked == place) (InBuffer group (key_of change)) r
+role_after place hand (Retire retired next) r = cond (retired == place) (HeldBy hand) r
+role_after place hand (StoreRedirect group new k to) r = cond (new == place) (InArray group k) r
+role_after place hand (NewGroup group low high first) r = emptied group r
 role_after place hand _ r = r
 
 -- whose the place is after the execution

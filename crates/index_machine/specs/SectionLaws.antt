@@ -6,6 +6,8 @@ use Rattle.index_machine.specs.declared.opening.Opening.{Opening}
 use Rattle.index_machine.specs.Execution.{Execution, event}
 use Rattle.index_machine.specs.Words.{word}
 use Rattle.index_machine.specs.Sections.{IsCaller, IsInside, IsOutside, crossings}
+use Rattle.index_machine.specs.Forms.{IsLockedBy}
+use Rattle.index_machine.specs.Places.{form}
 use Rattle.index_machine.specs.Conditions.{Valid}
 
 -- an epoch word counts the crossings of its caller, so it is odd while the caller is inside, and
@@ -30,3 +32,9 @@ ReadSectionsAlternate =
     (o : Opening) (hand n : ℕ) (t : Execution) →
     (Valid o (event hand (Enter n) ∷ t) → IsInside hand (event hand (Enter n) ∷ t))
     × (Valid o (event hand (Leave n) ∷ t) → IsOutside hand (event hand (Leave n) ∷ t))
+
+-- a caller that holds a version lock is inside
+abbrev pub HoldersAreInside : Type 0
+HoldersAreInside =
+    (o : Opening) (t : Execution) → Valid o t → (caller : ℕ) → IsCaller o caller →
+    (place : ℕ) → IsLockedBy caller (form o place t) → IsInside caller t

@@ -1,5 +1,5 @@
 -- Read sections: a caller is inside between an entry and the exit that follows it.
-use Rattle.std.specs.Prelude.{◌≡◌, ℕ, ◌+◌, ◌%◌, ◌<◌, ◌≤◌, Bool, cond}
+use Rattle.std.specs.Prelude.{◌≡◌, ℕ, ◌+◌, ◌%◌, ◌<◌, ◌≤◌, Bool, cond, [], ◌∷◌}
 use Rattle.index_machine.specs.declared.events.Action.{Action}
 use Rattle.index_machine.specs.declared.events.Action.TheVariants.{Enter, Leave}
 use Rattle.index_machine.specs.declared.opening.Opening.{Opening}
@@ -48,3 +48,19 @@ HasLeft hand earlier later = IsInside hand earlier → crossings hand earlier < 
 -- the grace period is over: each caller that was inside at the earlier execution has left since
 abbrev pub IsQuiescent : Opening → Execution → Execution → Type 0
 IsQuiescent o earlier later = (caller : ℕ) → IsCaller o caller → HasLeft caller earlier later
+
+-- the action is no entry and no exit
+abbrev pub IsNoCrossing : Action → Type 0
+IsNoCrossing (Enter n) = ⊥
+IsNoCrossing (Leave n) = ⊥
+IsNoCrossing _ = Unit {0}
+
+-- the hand's read section goes on over these newer events
+abbrev pub StaysInside : ℕ → Execution → Type 0
+StaysInside hand [] = Unit {0}
+StaysInside hand (e ∷ newer) = (e.by ≡ hand → IsNoCrossing e.action) × StaysInside hand newer
+
+-- the hand works inside a read section
+pub record IsReading (o : Opening) (hand : ℕ) (t : Execution) : Type 0 where
+  pub caller : IsCaller o hand
+  pub inside : IsInside hand t

@@ -1,9 +1,14 @@
 -- The words that an execution leaves.
 --
 -- The fact to remember: they are the opening words with the stores of the events made in order.
-use Rattle.std.specs.Prelude.{ℕ, cond, Option, Some, None, [], ◌∷◌}
+use Rattle.std.specs.Prelude.{ℕ, zero, suc, ◌+◌, cond, Option, Some, None, [], ◌∷◌}
 use Rattle.word_layout.specs.declared.limits.Limits.{Limits}
 use Rattle.word_layout.specs.declared.places.Part.TheVariants.{Key, Value, State, Link}
+use Rattle.word_layout.specs.declared.headers.HeaderWord.TheVariants as header
+use Rattle.word_layout.specs.declared.phase.Phase.TheVariants.{Open, Frozen, Opened}
+use Rattle.word_layout.specs.declared.state.State.TheVariants.{Redirect, Moved}
+use Rattle.word_layout.specs.Phase.{word_of_phase}
+use Rattle.word_layout.specs.State.{word_of_state}
 use Rattle.word_layout.specs.Layout.{limits_of}
 use Rattle.word_layout.specs.Addresses.{row_address}
 use Rattle.word_layout.specs.Places.{next_row}
@@ -13,6 +18,19 @@ use Rattle.word_layout.specs.Words.{Header, PlaceWord, same_word}
 use Rattle.index_machine.specs.declared.events.Action.{Action}
 use Rattle.index_machine.specs.declared.events.Action.TheVariants.{Enter, Leave}
 use Rattle.index_machine.specs.declared.events.Action.TheVariants.{PopFree, StorePrivate, PushFree}
+use Rattle.index_machine.specs.declared.events.Action.TheVariants.{Lock, StoreValue, Unlock}
+use Rattle.index_machine.specs.declared.events.Action.TheVariants.{LinkRow}
+use Rattle.index_machine.specs.declared.events.Action.TheVariants.{Freeze, Thaw, StoreHeader}
+use Rattle.index_machine.specs.declared.events.Action.TheVariants.{NewGroup}
+use Rattle.index_machine.specs.declared.events.Action.TheVariants.{StoreArray, StoreRedirect}
+use Rattle.index_machine.specs.declared.events.Action.TheVariants.{StoreOpened, Install, StoreSlot}
+use Rattle.index_machine.specs.declared.events.Action.TheVariants.{Close, Copy, StoreDirect}
+use Rattle.index_machine.specs.declared.events.Action.TheVariants.{StoreMoved}
+use Rattle.index_machine.specs.declared.events.Action.TheVariants.{StoreUnusedPivot}
+use Rattle.index_machine.specs.declared.events.Action.TheVariants.{StoreUnusedGroup}
+use Rattle.index_machine.specs.declared.events.Action.TheVariants.{StoreRoot}
+use Rattle.index_machine.specs.declared.events.InstallWord.{InstallWord}
+use Rattle.index_machine.specs.declared.events.InstallWord.TheVariants.{NextOf, FirstSlot}
 use Rattle.index_machine.specs.declared.opening.Opening.{Opening}
 use Rattle.index_machine.specs.Execution.{Execution}
 
@@ -31,6 +49,16 @@ pub record Store : Type 0 where
 abbrev pub store : Word → ℕ → Store
 store w n = record { word = w; value = n }
 
+-- the link word behind a row of a group's buffer, or the head where there is no row before
+abbrev pub link_behind : ℕ → ℕ → Word
+link_behind group zero = Header group header.BufferHead
+link_behind group (suc n) = PlaceWord (suc n) Link
+
+-- the store that takes new groups into the chain
+abbrev pub install_store : InstallWord → ℕ → Store
+install_store (NextOf left) first = store (Header left header.Next) (first + 1)
+install_store (FirstSlot side) first = store (SlotGroup side 0) first
+
 -- what an action of a hand stores: one word, or nothing
 abbrev pub store_of : ℕ → Action → Option Store
 store_of hand (Enter n) = Some (store (Epoch hand) n)
@@ -38,6 +66,29 @@ store_of hand (Leave n) = Some (store (Epoch hand) n)
 store_of hand (PopFree place next) = Some (store FreeHead next)
 store_of hand (StorePrivate place part value) = Some (store (PlaceWord place part) value)
 store_of hand (PushFree place head) = Some (store FreeHead place)
+store_of hand (Lock place expected) = Some (store (PlaceWord place State) (expected + 4))
+store_of hand (StoreValue place value) = Some (store (PlaceWord place Value) value)
+store_of hand (Unlock place removed change word) = Some (store (PlaceWord place State) word)
+store_of hand (LinkRow group place change before next) =
+    Some (store (link_behind group before) place)
+store_of hand (Freeze group) = Some (store (Header group header.Phase) (word_of_phase Frozen))
+store_of hand (Thaw group) = Some (store (Header group header.Phase) (word_of_phase Open))
+store_of hand (StoreHeader group part value) = Some (store (Header group part) value)
+store_of hand (NewGroup group low high first) = Some (store (Header group header.Pivot) low)
+store_of hand (StoreArray group place part value) = Some (store (PlaceWord place part) value)
+store_of hand (StoreRedirect group place k to) =
+    Some (store (PlaceWord place State) (word_of_state (Redirect to)))
+store_of hand (StoreOpened group first) =
+    Some (store (Header group header.Phase) (word_of_phase (Opened first)))
+store_of hand (Install at first low high) = Some (install_store at first)
+store_of hand (StoreSlot side i group) = Some (store (SlotGroup side i) group)
+store_of hand (Close place expected) = Some (store (PlaceWord place State) (expected + 4))
+store_of hand (Copy place value) = Some (store (PlaceWord place Value) value)
+store_of hand (StoreDirect place from k removed word) = Some (store (PlaceWord place State) word)
+store_of hand (StoreMoved place) = Some (store (PlaceWord place State) (word_of_state Moved))
+store_of hand (StoreUnusedPivot side i pivot) = Some (store (SlotPivot side i) pivot)
+store_of hand (StoreUnusedGroup side i group) = Some (store (SlotGroup side i) group)
+store_of hand (StoreRoot word) = Some (store Root word)
 store_of hand _ = None
 
 -- what a word holds after a store, if there is one

@@ -1,8 +1,9 @@
 //! What holds after every valid execution. Each function is a law and does nothing.
 ghost use Rattle.index_machine.specs.RowLaws.{EachRowIsInOnePlace, HeldRowsStay};
 ghost use Rattle.index_machine.specs.RowLaws.{FreeStackIsLinked, LinksNameRows};
-ghost use Rattle.index_machine.specs.SectionLaws.{EpochsCountCrossings, ReadSectionsAlternate};
+ghost use Rattle.index_machine.specs.SectionLaws.{EpochsCountCrossings, ReadSectionsAlternate, HoldersAreInside};
 ghost use Rattle.index_machine.specs.HeadLaws.{ObservedHeadsHold, GracePeriodEndsObservedHeads};
+ghost use Rattle.index_machine.specs.Represents.{AllStepsRepresent, WordsStandForTheState};
 
 /// No two hands hold one row, and no row in a hand is free.
 pub fn each_row_is_in_one_place()
@@ -34,6 +35,11 @@ pub fn read_sections_alternate()
     ensures { ReadSectionsAlternate }
 {}
 
+/// A caller that leaves holds no version lock, so no place stays locked by one that is outside.
+pub fn holders_are_inside()
+    ensures { HoldersAreInside }
+{}
+
 /// A link that was loaded with its head is that row's link whenever the row is the head again.
 ///
 /// So an exchange that finds the head as it was loaded stores the right next one, however often the
@@ -50,6 +56,16 @@ pub fn grace_period_ends_observed_heads()
     ensures { GracePeriodEndsObservedHeads }
 {}
 
+/// Every action leaves words that stand for the state.
+pub fn all_steps_represent()
+    ensures { AllStepsRepresent }
+{}
+
+/// What a hand loads tells it the state: roles, forms, phases, slots and the root.
+pub fn words_stand_for_the_state()
+    ensures { WordsStandForTheState }
+{}
+
 #[cfg(test)]
 mod tests {
     use super::*;
@@ -62,7 +78,10 @@ mod tests {
         held_rows_stay();
         epochs_count_crossings();
         read_sections_alternate();
+        holders_are_inside();
         observed_heads_hold();
         grace_period_ends_observed_heads();
+        all_steps_represent();
+        words_stand_for_the_state();
     }
 }

@@ -9,7 +9,9 @@ use Rattle.index_machine.specs.Execution.{Execution, Without}
 use Rattle.index_machine.specs.Words.{limits}
 use Rattle.index_machine.specs.Sections.{IsCaller, crossings}
 use Rattle.index_machine.specs.Conditions.{MayEnter, MayLeave, next_epoch}
+use Rattle.index_machine.specs.RecordConditions.{HoldsNoLock}
 use Rattle.index_machine.proofs.Executions.{crossings_on}
+use Rattle.index_machine.proofs.Holders.{holds_no_lock_on}
 use Rattle.index_rule.specs.declared.view.View.{View}
 use Rattle.index_rule.specs.Rule.{Kept, Does, word_in}
 use Rattle.index_rule.specs.Steps.{epoch_load}
@@ -60,6 +62,8 @@ module _ (o : Opening) (slots id : ℕ) (me : Me (Unit {0}) View) (c : ℕ)
         record {
           caller = may.caller;
           inside = ap (λ (z : ℕ). z % 2) same ∙ may.inside;
+          holds_none = subst (HoldsNoLock o c) e
+              (holds_no_lock_on o c newer me.0.known out may.holds_none);
         },
         next ∙ ap (λ (z : ℕ). (z + 1) % 2 ^ 64) (sym same),
       )))

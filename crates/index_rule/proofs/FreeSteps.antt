@@ -130,6 +130,7 @@ module _ (o : Opening) (slots id : ℕ) (me : Me (Unit {0}) View) (c : ℕ)
               record {
                 rest = first.0;
                 top = first.1 ∙ ap (λ (z : ℕ). z ∷ first.0) hit;
+                unused = ap (λ (z : ℕ). role o z t) (sym hit) ∙ free.0;
                 link = heads.link c p n reading.caller now
                     (ap (λ (z : ℕ). role o z t) (sym hit) ∙ free.0);
               },

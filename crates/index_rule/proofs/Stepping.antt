@@ -1,17 +1,22 @@
 -- What a hand knows after one step of its own, whatever the others did before it.
-use Rattle.std.proofs.Common.{◌≡◌, ℕ, ◌%◌, ◌^◌, true, ◌∷◌, ◌++◌, sym, ap, ◌∙◌, subst}
+use Rattle.std.proofs.Common.{arith, ◌≡◌, ℕ, ◌%◌, ◌^◌, true, ◌∷◌, ◌++◌, sym, ap, ◌∙◌, subst}
 use Rattle.word_layout.specs.declared.places.Part.{Part}
 use Rattle.word_layout.specs.Words.{PlaceWord}
 use Rattle.index_machine.specs.declared.events.Action.{Action}
 use Rattle.index_machine.specs.declared.events.Action.TheVariants.{LoadEpoch, PopFree}
+use Rattle.index_machine.specs.declared.events.Action.TheVariants.{Enter}
 use Rattle.index_machine.specs.Execution.{Execution, Continues, Without, event}
 use Rattle.index_machine.specs.Words.{word, store_of, stored}
 use Rattle.index_machine.specs.Sections.{IsCaller, IsKeeper, crossings, crossings_after}
 use Rattle.index_machine.specs.Rows.{Holds, HoldsNone}
 use Rattle.index_machine.specs.ObservedHeads.{IsUnobserved, observed_after, observed_head}
-use Rattle.index_machine.specs.Conditions.{IsReading, Valid}
+use Rattle.index_machine.specs.Conditions.{IsReading, MayEnter, MayLeave, Valid}
 use Rattle.index_machine.specs.HeadLaws.{IsNoPushOf}
+use Rattle.index_machine.specs.RecordConditions.{HoldsNoLock}
 use Rattle.index_machine.proofs.Counting.{counted}
+use Rattle.index_machine.proofs.Executions.{valid_before}
+use Rattle.index_machine.proofs.Holders.{TakesLock, holds_no_lock_after, holds_no_lock_on}
+use Rattle.index_machine.proofs.Holders.{outside_holds_none}
 use Rattle.index_machine.proofs.Executions.{crossings_on, crossings_own, observed_head_on}
 use Rattle.index_machine.proofs.Executions.{observed_head_own}
 use Rattle.index_machine.proofs.GracePeriods.{others_push_none, unobserved_on}
@@ -68,6 +73,26 @@ module _ (b : Board) (h k : Hand) (action : Action) (of : IsHandOf b h)
         caller = subst (IsCaller (opening_of b)) (sym m.number) reading.caller;
         inside = ap (λ (z : ℕ). z % 2) (crossings_is ∙ none (crossings h.number (known h)))
             ∙ reading.inside;
+      }
+
+  pub still_holds_no_lock : (TakesLock action → ⊥) →
+      HoldsNoLock (opening_of b) h.number (known h) →
+      HoldsNoLock (opening_of b) k.number (known k)
+  still_holds_no_lock takes_none none =
+      subst (λ (z : ℕ × Execution). HoldsNoLock (opening_of b) z.0 z.1)
+      (λ i. (sym m.number i, sym known_is i))
+      (holds_no_lock_after (opening_of b) h.number h.number action (m.acts.0 ++ known h)
+      (λ takes. absurd (takes_none takes))
+      (holds_no_lock_on (opening_of b) h.number m.acts.0 (known h) others_only none))
+
+  pub still_may_leave : IsNoCrossing action → (TakesLock action → ⊥) →
+      MayLeave (opening_of b) h.number (known h) → MayLeave (opening_of b) k.number (known k)
+  still_may_leave none takes_none may =
+      let reading = still_reading none (record { caller = may.caller; inside = may.inside }) in
+      record {
+        caller = reading.caller;
+        inside = reading.inside;
+        holds_none = still_holds_no_lock takes_none may.holds_none;
       }
 
   pub observed_is : observed_head k.number (known k)
@@ -140,3 +165,28 @@ epoch_is b h k caller found of m =
     ∙ ((counted (opening_of b) (m.acts.0 ++ known h) valid.1).count caller valid.0.0
     ∙ ap (λ (z : Execution). crossings caller z % 2 ^ 64)
     (sym (known_is b h k (LoadEpoch caller found) of m)))
+
+-- a caller that entered is inside
+pub entered_reading : (b : Board) (h k : Hand) (n : ℕ) → IsHandOf b h → Makes b h (Enter n) k →
+    MayEnter (opening_of b) h.number (known h) → IsReading (opening_of b) k.number (known k)
+entered_reading b h k n of m may =
+    let now = crossings_is b h k (Enter n) of m in
+    let before = may.outside in
+    record {
+      caller = subst (IsCaller (opening_of b)) (sym m.number) may.caller;
+      inside = omega arith;
+    }
+
+-- a caller that entered may leave
+pub may_leave_after_enter : (b : Board) (h k : Hand) (n : ℕ) → IsHandOf b h →
+    Makes b h (Enter n) k → MayEnter (opening_of b) h.number (known h) →
+    IsReading (opening_of b) k.number (known k) → MayLeave (opening_of b) k.number (known k)
+may_leave_after_enter b h k n of m may reading =
+    let valid = valid_after b h k (Enter n) of m in
+    let before = valid_before (opening_of b) m.acts.0 (known h) valid.1 in
+    record {
+      caller = reading.caller;
+      inside = reading.inside;
+      holds_none = still_holds_no_lock b h k (Enter n) of m (λ z. absurd z)
+          (outside_holds_none (opening_of b) (known h) before h.number may.caller may.outside);
+    }

@@ -13,6 +13,7 @@ pub fn enter(board: &Board, hand: &mut Hand)
     ensures step { Makes board.now hand.old (Enter (next_epoch hand.old.number (known hand.old)))
         hand.new }
     ensures inside { IsReading (opening_of board.now) hand.new.number (known hand.new) }
+    ensures may_leave { MayLeave (opening_of board.now) hand.new.number (known hand.new) }
 {
     board.store_enter(hand);
 }

@@ -1,7 +1,7 @@
 //! A caller takes a row from the free stack and fills it.
 ghost use Rattle.std.specs.Prelude.{◌≡◌};
 ghost use Rattle.index_machine.specs.Rows.{Holds, HoldsNone};
-ghost use Rattle.index_machine.specs.Conditions.{IsReading};
+ghost use Rattle.index_machine.specs.Conditions.{IsReading, MayLeave};
 ghost use Rattle.index_rule.specs.Hands.{IsHandOf, known, opening_of};
 ghost use Rattle.index_rule.specs.OwnRows.{place_of_private};
 ghost use Rattle.row_arena.specs.Taking.{Fills, TakesRow, HoldsTaken};
@@ -32,6 +32,8 @@ pub fn take(board: &Board, hand: &mut Hand) -> Taken
     ensures number { hand.new.number ≡ hand.old.number }
     ensures steps { TakesRow board.now hand.old result hand.new }
     ensures reading { IsReading (opening_of board.now) hand.new.number (known hand.new) }
+    ensures may_leave { MayLeave (opening_of board.now) hand.old.number (known hand.old) →
+        MayLeave (opening_of board.now) hand.new.number (known hand.new) }
     ensures holds { HoldsTaken (opening_of board.now) hand.new.number result (known hand.new) }
 {
     let head = board.load_free(hand);
@@ -60,6 +62,8 @@ pub fn fill(board: &Board, hand: &mut Hand, row: &mut PrivateRow, key: u64, valu
     ensures number { hand.new.number ≡ hand.old.number }
     ensures row { row.new ≡ row.old }
     ensures reading { IsReading (opening_of board.now) hand.new.number (known hand.new) }
+    ensures may_leave { MayLeave (opening_of board.now) hand.old.number (known hand.old) →
+        MayLeave (opening_of board.now) hand.new.number (known hand.new) }
     ensures filled { Fills board.now hand.old (place_of_private row.old) key value hand.new }
 {
     let place = row.place();

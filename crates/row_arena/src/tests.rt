@@ -3,7 +3,7 @@ ghost use Rattle.std.specs.Prelude.{◌≡◌, ◌+◌, ◌<◌, IfSome, length}
 ghost use Rattle.index_machine.specs.Words.{limits};
 ghost use Rattle.index_machine.specs.Sections.{IsCaller};
 ghost use Rattle.index_machine.specs.Rows.{Holds, HoldsNone};
-ghost use Rattle.index_machine.specs.Conditions.{IsReading};
+ghost use Rattle.index_machine.specs.Conditions.{IsReading, MayLeave};
 ghost use Rattle.index_rule.specs.Hands.{IsHandOf, known, opening_of};
 ghost use Rattle.index_rule.specs.Opened.{AreNewHands, HasNewHands};
 ghost use Rattle.index_rule.specs.OwnRows.{place_of_private};
@@ -58,9 +58,11 @@ fn take_within(board: &Board, hand: &mut Hand, tries: u32) -> Option<PrivateRow>
     requires hand { IsHandOf board.now hand.old }
     requires reading { IsReading (opening_of board.now) hand.old.number (known hand.old) }
     requires none { HoldsNone (opening_of board.now) hand.old.number (known hand.old) }
+    requires may_leave { MayLeave (opening_of board.now) hand.old.number (known hand.old) }
     ensures hand { IsHandOf board.now hand.new }
     ensures number { hand.new.number ≡ hand.old.number }
     ensures reading { IsReading (opening_of board.now) hand.new.number (known hand.new) }
+    ensures may_leave { MayLeave (opening_of board.now) hand.new.number (known hand.new) }
     ensures held { IfSome result (λ row. Holds (opening_of board.now) hand.new.number
         (place_of_private row) (known hand.new)) }
 {

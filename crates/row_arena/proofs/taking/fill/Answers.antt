@@ -8,7 +8,7 @@ use Rattle.word_layout.specs.State.{word_of_state}
 use Rattle.index_machine.specs.declared.events.Action.TheVariants.{StorePrivate}
 use Rattle.index_rule.specs.Hands.{Makes, opening_of}
 use Rattle.index_rule.specs.OwnRows.{place_of_private}
-use Rattle.index_rule.proofs.Stepping.{still_holds, still_reading}
+use Rattle.index_rule.proofs.Stepping.{still_holds, still_may_leave, still_reading}
 use Rattle.row_arena.specs.Taking.{first_state}
 use Rattle.row_arena.proofs.HeldRows.{held_below, stored_word, stores_part, other_word}
 use Rattle.row_arena.proofs.taking.fill.Goals as goal
@@ -78,3 +78,15 @@ returns-clause-filled c =
           ∙ stored_word b k l place Value _ first.of second held_first;
       state_word = stored_word b l m place State _ second.of third held_second;
     }
+
+pub returns-clause-may_leave : goal.returns-clause-may_leave
+returns-clause-may_leave c may =
+    let b = c.args.board.now in
+    let first = c.store_private.ensures.step in
+    let second = c.store_private-2.ensures.step in
+    let k = c.store_private.new.hand in
+    let l = c.store_private-2.new.hand in
+    still_may_leave b l c.store_private-3.new.hand _ second.of c.store_private-3.ensures.step
+    (λ _. refl) (λ z. absurd z)
+    (still_may_leave b k l _ first.of second (λ _. refl) (λ z. absurd z)
+    (still_may_leave b c.args.hand.now k _ c.requires.hand first (λ _. refl) (λ z. absurd z) may))

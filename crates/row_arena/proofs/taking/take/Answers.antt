@@ -1,7 +1,7 @@
 use Rattle.std.proofs.Common.{◌≢◌, ℕ, [], ◌∷◌, refl, sym, subst}
 use Rattle.index_machine.specs.declared.events.Action.TheVariants.{LoadFree, LoadFreeLink, PopFree}
 use Rattle.index_rule.specs.Hands.{Makes, MakesAll}
-use Rattle.index_rule.proofs.Stepping.{still_holds_none}
+use Rattle.index_rule.proofs.Stepping.{still_holds_none, still_may_leave}
 use Rattle.row_arena.proofs.taking.take.Goals as goal
 
 pub returns-then-head-eq0-clause-steps : goal.returns-then-head-eq0-clause-steps
@@ -74,3 +74,32 @@ returns-in-Found-clause-holds c =
     still_holds_none b l c.swap_free_pop.new.hand _ second.of c.in-Found.ensures.0 tt
     (still_holds_none b k l _ first.of second tt
     (still_holds_none b c.args.hand.now k _ c.requires.hand first tt c.requires.none))
+
+pub returns-then-head-eq0-clause-may_leave : goal.returns-then-head-eq0-clause-may_leave
+returns-then-head-eq0-clause-may_leave c may =
+    still_may_leave c.args.board.now c.args.hand.now c.load_free-head.new.hand _ c.requires.hand
+    c.load_free-head.ensures.step (λ _. refl) (λ z. absurd z) may
+
+pub returns-in-Done-clause-may_leave : goal.returns-in-Done-clause-may_leave
+returns-in-Done-clause-may_leave c may =
+    let b = c.args.board.now in
+    let first = c.load_free-head.ensures.step in
+    let second = c.load_free_link-next.ensures in
+    let k = c.load_free-head.new.hand in
+    let l = c.load_free_link-next.new.hand in
+    still_may_leave b l c.swap_free_pop.new.hand _ second.of c.in-Done.ensures (λ _. refl)
+    (λ z. absurd z)
+    (still_may_leave b k l _ first.of second (λ _. refl) (λ z. absurd z)
+    (still_may_leave b c.args.hand.now k _ c.requires.hand first (λ _. refl) (λ z. absurd z) may))
+
+pub returns-in-Found-clause-may_leave : goal.returns-in-Found-clause-may_leave
+returns-in-Found-clause-may_leave c may =
+    let b = c.args.board.now in
+    let first = c.load_free-head.ensures.step in
+    let second = c.load_free_link-next.ensures in
+    let k = c.load_free-head.new.hand in
+    let l = c.load_free_link-next.new.hand in
+    still_may_leave b l c.swap_free_pop.new.hand _ second.of c.in-Found.ensures.0 (λ _. refl)
+    (λ z. absurd z)
+    (still_may_leave b k l _ first.of second (λ _. refl) (λ z. absurd z)
+    (still_may_leave b c.args.hand.now k _ c.requires.hand first (λ _. refl) (λ z. absurd z) may))

@@ -1,0 +1,40 @@
+-- What stands when the table is opened. Opening with records, in one group and later in several,
+-- changes these functions and what is proved of them at the opening, and nothing else.
+use Rattle.std.specs.Prelude.{ℕ, Bool, true, false, cond, nat_lt, Option, None, []}
+use Rattle.map_model.specs.Map.{Map}
+use Rattle.index_machine.specs.declared.opening.Opening.{Opening}
+use Rattle.index_machine.specs.Words.{limits}
+use Rattle.index_machine.specs.Forms.{Form, Blank}
+
+-- the map at the opening
+abbrev pub opening_map : Opening → Map
+opening_map o = []
+
+-- the form of a place at the opening
+abbrev pub opening_form : Opening → ℕ → Form
+opening_form o place = Blank
+
+-- the place where the value of a key is at the opening
+abbrev pub opening_live_place : Opening → ℕ → Option ℕ
+opening_live_place o k = None
+
+-- whether a key lies from low to high, both included
+abbrev pub within : ℕ → ℕ → ℕ → Bool
+within low k high = cond (nat_lt k low) false (cond (nat_lt high k) false true)
+
+-- the greatest key
+abbrev pub greatest_key : ℕ
+greatest_key = 18446744073709551615
+
+-- the group of the chain that answers for a key at the opening; for what is no key, the number
+-- behind the last group
+abbrev pub opening_group : Opening → ℕ → ℕ
+opening_group o k = cond (within 0 k greatest_key) 0 (limits o).groups
+
+-- the group that a slot names at the opening
+abbrev pub opening_slot : Opening → ℕ → ℕ → ℕ
+opening_slot o side i = 0
+
+-- the root word at the opening: one slot of side 0 is in use
+abbrev pub opening_root : Opening → ℕ
+opening_root o = 2
