@@ -1,0 +1,5 @@
+use Rattle.machine_readers.proofs.FromOpening.{not_found_behind}
+use Rattle.machine_readers.proofs.laws.not_found_behind_is_absent.Goals as goal
+
+pub returns : goal.returns
+returns c = not_found_behind
