@@ -1,0 +1,877 @@
+-- A rebuild whose name is used again is valid while another group of the old rebuild of this name
+-- is still in the chain.
+use Rattle.std.proofs.Common.{◌≡◌, ◌≢◌, ℕ, ◌+◌, ◌*◌, ◌<◌, ◌≤◌, inl, inr, ⊎_elim, Option, Some}
+use Rattle.std.proofs.Common.{None, Bool, true, false, [], ◌∷◌, cond, refl, sym, ◌∙◌, subst}
+use Rattle.std.proofs.Common.{arith, nat_lt, ◌⊎◌}
+use Rattle.std.proofs.lemmas.Bool.{le-ltb, lt-ltb, ltb-false, ltb-true}
+use mathlib.Core.Logic.{dite}
+use native.Mathlib.Decide.{ℕ_discrete}
+use Rattle.index_machine.proofs.Executions.{choice-other, choice-same}
+use Rattle.index_machine.specs.Conditions.{Valid}
+use Rattle.index_machine.specs.Execution.{Execution, event}
+use Rattle.index_machine.specs.Groups.{IsInUse, phase, rebuild, root, slot, unless_named}
+use Rattle.index_machine.specs.KeyRanges.{group_of, or_else, successor}
+use Rattle.index_machine.specs.Openings.{greatest_key, within}
+use Rattle.index_machine.specs.Permissions.{IsGone, IsReadableSlot, MayInsertInto}
+use Rattle.index_machine.specs.Reaching.{SeesSlot, root_seen, saw_open, saw_opened, stands_in}
+use Rattle.index_machine.specs.RebuildConditions.{AreChained, HasNewGroup, IsBehindFirst}
+use Rattle.index_machine.specs.RebuildConditions.{IsNextWord, IsSettled, IsSized, MayBegin}
+use Rattle.index_machine.specs.RebuildConditions.{MayFillHeader, MayInstall, MayOpen}
+use Rattle.index_machine.specs.Words.{limits, word}
+use Rattle.machine_keeper.proofs.Ranges.{in_range, range_in}
+use Rattle.index_machine.specs.Rows.{InArray, role}
+use Rattle.word_layout.specs.Addresses.{array_address}
+use Rattle.word_layout.specs.Words.{Header}
+use Rattle.index_machine.specs.Sections.{IsCaller, IsHand}
+use Rattle.index_machine.specs.declared.events.Action.TheVariants.{Freeze, NewGroup, StoreHeader}
+use Rattle.index_machine.specs.declared.events.Action.TheVariants.{StoreOpened, Install}
+use Rattle.index_machine.specs.declared.events.InstallWord.TheVariants.{FirstSlot}
+use Rattle.index_machine.specs.declared.opening.Opening.{Opening}
+use Rattle.machine_barriers.proofs.OpenedGroups.{begun_back, frozen_not, open_not, opened_back}
+use Rattle.machine_barriers.proofs.OpenedGroups.{opened_is}
+use Rattle.machine_keeper.specs.NameUsedAgain.{four_groups, NamesAreUsedAgain}
+use Rattle.machine_places.proofs.Forms.{named_before, none_some, not_so, some_is}
+use Rattle.word_layout.specs.declared.headers.HeaderWord.TheVariants as header
+use Rattle.word_layout.specs.declared.layout.Layout.{Layout}
+use Rattle.word_layout.specs.declared.phase.Phase.TheVariants.{Frozen, Open, Opened}
+
+-- ---- the table ----
+
+abbrev four_group_layout : Layout
+four_group_layout =
+    record {
+      limits = four_groups;
+      group_words = 40;
+      groups_from = 7;
+      rows_from = 167;
+      kept = record {
+        least_callers = omega arith;
+        most_callers = omega arith;
+        least_records = omega arith;
+        most_records = omega arith;
+        least_groups = omega arith;
+        most_groups = omega arith;
+        least_group_size = omega arith;
+        most_group_size = omega arith;
+        least_slots = omega arith;
+        most_slots = omega arith;
+        least_due = omega arith;
+        most_due = omega arith;
+        least_help = omega arith;
+        most_help = omega arith;
+        least_chain = omega arith;
+        most_chain = omega arith;
+        most_first_version = omega arith;
+        most_words = omega arith;
+      };
+      group_width = refl;
+      groups_behind_slots = refl;
+      rows_behind_groups = refl;
+    }
+
+abbrev o : Opening
+o = record { layout = four_group_layout }
+
+-- ---- the execution, event by event ----
+
+abbrev frozen_0 : Execution
+frozen_0 = event 1 (Freeze 0) ∷ []
+
+abbrev step_1 : Execution
+step_1 = event 1 (StoreHeader 1 header.Next 3) ∷ frozen_0
+
+abbrev step_2 : Execution
+step_2 = event 1 (NewGroup 1 0 4 1) ∷ step_1
+
+abbrev step_3 : Execution
+step_3 = event 1 (NewGroup 2 5 greatest_key 1) ∷ step_2
+
+abbrev step_4 : Execution
+step_4 = event 1 (StoreOpened 0 1) ∷ step_3
+
+abbrev step_5 : Execution
+step_5 = event 1 (Install (FirstSlot 0) 1 0 greatest_key) ∷ step_4
+
+abbrev frozen_1 : Execution
+frozen_1 = event 1 (Freeze 1) ∷ step_5
+
+abbrev step_6 : Execution
+step_6 = event 1 (StoreHeader 3 header.Next 3) ∷ frozen_1
+
+abbrev step_7 : Execution
+step_7 = event 1 (NewGroup 3 0 4 3) ∷ step_6
+
+abbrev step_8 : Execution
+step_8 = event 1 (StoreOpened 1 3) ∷ step_7
+
+abbrev step_9 : Execution
+step_9 = event 1 (Install (FirstSlot 0) 3 0 4) ∷ step_8
+
+abbrev frozen_2 : Execution
+frozen_2 = event 1 (Freeze 2) ∷ step_9
+
+abbrev step_10 : Execution
+step_10 = event 1 (StoreHeader 1 header.Phase 0) ∷ frozen_2
+
+abbrev step_11 : Execution
+step_11 = event 1 (StoreHeader 1 header.Next 0) ∷ step_10
+
+abbrev step_12 : Execution
+step_12 = event 1 (NewGroup 1 5 greatest_key 1) ∷ step_11
+
+-- ---- the keys, in two ranges ----
+
+abbrev Same : ℕ → ℕ → Type 0
+Same a b = a ≡ b
+
+abbrev SameOption : Option ℕ → Option ℕ → Type 0
+SameOption a b = a ≡ b
+
+-- whether a key is in the low range, in the high one, and a key at all
+abbrev IsSplit : Bool → Bool → Bool → Type 0
+IsSplit true false true = Unit {0}
+IsSplit false true true = Unit {0}
+IsSplit false false false = Unit {0}
+IsSplit _ _ _ = ⊥
+
+-- by the four comparisons of a key with the ends of the ranges
+split_cases : (x y z v : Bool) → x ≡ false →
+    ((y ≡ false) × (z ≡ true) × (v ≡ false)) ⊎ ((y ≡ true) × (z ≡ false)) →
+    IsSplit (cond x false (cond y false true)) (cond z false (cond v false true))
+    (cond x false (cond v false true))
+split_cases true y z v e h = not_so (sym e)
+split_cases false false true false e h = tt
+split_cases false true false false e h = tt
+split_cases false true false true e h = tt
+split_cases false false z v e h = ⊎_elim
+    (λ (p : (false ≡ false) × (z ≡ true) × (v ≡ false)). low z v p.1 p.2)
+    (λ (p : (false ≡ true) × (z ≡ false)). not_so p.0) h
+  where
+    low : (z v : Bool) → z ≡ true → v ≡ false →
+        IsSplit true (cond z false (cond v false true)) (cond v false true)
+    low true false e f = tt
+    low false v e f = not_so e
+    low true true e f = not_so (sym f)
+split_cases false true true v e h = ⊎_elim
+    (λ (p : (true ≡ false) × (true ≡ true) × (v ≡ false)). not_so (sym p.0))
+    (λ (p : (true ≡ true) × (true ≡ false)). not_so (sym p.1)) h
+
+-- each number is of one of the three kinds
+split : (k : ℕ) → IsSplit (within 0 k 4) (within 5 k greatest_key) (within 0 k greatest_key)
+split k = split_cases (nat_lt k 0) (nat_lt 4 k) (nat_lt k 5) (nat_lt greatest_key k)
+    (le-ltb k 0 (omega arith)) (go (nat_lt 4 k) refl)
+  where
+    go : (y : Bool) → nat_lt 4 k ≡ y →
+        ((nat_lt 4 k ≡ false) × (nat_lt k 5 ≡ true) × (nat_lt greatest_key k ≡ false))
+        ⊎ ((nat_lt 4 k ≡ true) × (nat_lt k 5 ≡ false))
+    go false e = let h : k ≤ 4 = ltb-false 4 k e in
+        inl (e, lt-ltb k 5 (omega (arith, h)), le-ltb greatest_key k (omega (arith, h)))
+    go true e = let h : 4 < k = ltb-true 4 k e in inr (e, le-ltb k 5 (omega (arith, h)))
+
+-- the low range has just the keys up to 4
+is_low : (k : ℕ) → k ≤ 4 → within 0 k 4 ≡ true
+is_low k below = rw (le-ltb k 0 (omega arith), le-ltb 4 k below) refl
+
+is_high : (k : ℕ) → 4 < k → within 0 k 4 ≡ false
+is_high k above = rw (le-ltb k 0 (omega arith), lt-ltb 4 k above) refl
+
+-- ---- groups and new groups of a key in these ranges ----
+
+-- the new group of a key in these ranges, and its group: after the first rebuild, then after the
+-- second, and the new group once the name is used again
+abbrev new_1 : Bool → Bool → Option ℕ
+new_1 a b = cond b (Some 2) (unless_named 2 (cond a (Some 1) None))
+
+abbrev group_1 : Bool → Bool → Bool → ℕ
+group_1 a b w = cond w (or_else (new_1 a b) (cond w 0 4)) (cond w 0 4)
+
+abbrev new_2 : Bool → Bool → Option ℕ
+new_2 a b = cond a (Some 3) (unless_named 3 (new_1 a b))
+
+abbrev group_2 : Bool → Bool → Bool → ℕ
+group_2 a b w = cond a (or_else (new_2 a b) (group_1 a b w)) (group_1 a b w)
+
+abbrev new_3 : Bool → Bool → Option ℕ
+new_3 a b = cond b (Some 1) (unless_named 1 (new_2 a b))
+
+-- a statement of a key's ranges, from the three kinds of number
+by_range : (P : Bool → Bool → Bool → Type 0) → P true false true → P false true true →
+    P false false false → (a b w : Bool) → IsSplit a b w → P a b w
+by_range P low high none true false true s = low
+by_range P low high none false true true s = high
+by_range P low high none false false false s = none
+by_range P low high none true true true s = absurd s
+by_range P low high none true true false s = absurd s
+by_range P low high none true false false s = absurd s
+by_range P low high none false true false s = absurd s
+by_range P low high none false false true s = absurd s
+
+-- so of every number
+at_key : (P : Bool → Bool → Bool → Type 0) → P true false true → P false true true →
+    P false false false → (k : ℕ) →
+    P (within 0 k 4) (within 5 k greatest_key) (within 0 k greatest_key)
+at_key P low high none k = by_range P low high none (within 0 k 4) (within 5 k greatest_key)
+    (within 0 k greatest_key) (split k)
+
+-- which groups answer for no key: at first, after the first install, and after the second
+not_1_in_0 : (k : ℕ) → group_of o k step_1 ≢ 1
+not_1_in_0 = at_key (λ a b w. Same (cond w 0 4) 1 → ⊥) (λ e. omega (arith, e))
+    (λ e. omega (arith, e)) (λ e. omega (arith, e))
+
+not_2_in_0 : (k : ℕ) → group_of o k step_1 ≢ 2
+not_2_in_0 = at_key (λ a b w. Same (cond w 0 4) 2 → ⊥) (λ e. omega (arith, e))
+    (λ e. omega (arith, e)) (λ e. omega (arith, e))
+
+not_0_in_1 : (k : ℕ) → group_of o k step_5 ≢ 0
+not_0_in_1 = at_key (λ a b w. Same (group_1 a b w) 0 → ⊥) (λ e. omega (arith, e))
+    (λ e. omega (arith, e)) (λ e. omega (arith, e))
+
+not_3_in_1 : (k : ℕ) → group_of o k step_5 ≢ 3
+not_3_in_1 = at_key (λ a b w. Same (group_1 a b w) 3 → ⊥) (λ e. omega (arith, e))
+    (λ e. omega (arith, e)) (λ e. omega (arith, e))
+
+not_0_in_2 : (k : ℕ) → group_of o k step_9 ≢ 0
+not_0_in_2 = at_key (λ a b w. Same (group_2 a b w) 0 → ⊥) (λ e. omega (arith, e))
+    (λ e. omega (arith, e)) (λ e. omega (arith, e))
+
+not_1_in_2 : (k : ℕ) → group_of o k step_9 ≢ 1
+not_1_in_2 = at_key (λ a b w. Same (group_2 a b w) 1 → ⊥) (λ e. omega (arith, e))
+    (λ e. omega (arith, e)) (λ e. omega (arith, e))
+
+not_1_after : (k : ℕ) → successor k step_9 ≢ Some 1
+not_1_after = at_key (λ a b w. SameOption (new_2 a b) (Some 1) → ⊥)
+    (λ e. let bad : Same 3 1 = some_is e in omega (arith, bad))
+    (λ e. let bad : Same 2 1 = some_is e in omega (arith, bad)) (λ e. none_some e)
+
+-- ---- what was opened, and to what ----
+
+none_1 : (g f : ℕ) → phase g step_1 ≢ Opened f
+none_1 g f e = open_not (opened_back 0 g Frozen Open f frozen_not e).1
+
+none_2 : (g f : ℕ) → phase g step_2 ≢ Opened f
+none_2 g f e = none_1 g f (begun_back 1 g (phase g step_1) f e).2
+
+none_3 : (g f : ℕ) → phase g step_3 ≢ Opened f
+none_3 g f e = none_2 g f (begun_back 2 g (phase g step_2) f e).2
+
+opened_4 : (g f : ℕ) → phase g step_4 ≡ Opened f → Same 0 g × Same 1 f
+opened_4 g f e = dite (ℕ_discrete 0 g)
+    (λ (z : Same 0 g). (z, opened_is (sym (choice-same 0 g (Opened 1) (phase g step_3) z) ∙ e)))
+    (λ (n : Same 0 g → ⊥). absurd (none_3 g f
+    (sym (choice-other 0 g (Opened 1) (phase g step_3) n) ∙ e)))
+
+opened_6 : (g f : ℕ) → phase g step_6 ≡ Opened f → Same 0 g × Same 1 f
+opened_6 g f e = opened_4 g f (opened_back 1 g Frozen (phase g step_5) f frozen_not e).1
+
+opened_7 : (g f : ℕ) → phase g step_7 ≡ Opened f → Same 0 g × Same 1 f
+opened_7 g f e = opened_6 g f (begun_back 3 g (phase g step_6) f e).2
+
+opened_8 : (g f : ℕ) → phase g step_8 ≡ Opened f → (Same 1 g × Same 3 f) ⊎ (Same 0 g × Same 1 f)
+opened_8 g f e = dite (ℕ_discrete 1 g)
+    (λ (z : Same 1 g). inl (z, opened_is (sym (choice-same 1 g (Opened 3) (phase g step_7) z) ∙ e)))
+    (λ (n : Same 1 g → ⊥).
+    inr (opened_7 g f (sym (choice-other 1 g (Opened 3) (phase g step_7) n) ∙ e)))
+
+opened_11 : (g f : ℕ) → phase g step_11 ≡ Opened f → (Same 1 g × Same 3 f) ⊎ (Same 0 g × Same 1 f)
+opened_11 g f e = opened_8 g f (opened_back 2 g Frozen (phase g step_9) f frozen_not e).1
+
+none_12 : (g f : ℕ) → phase g step_12 ≢ Opened f
+none_12 g f e = let w = begun_back 1 g (phase g step_11) f e in
+    ⊎_elim (λ (z : Same 1 g × Same 3 f). w.0 z.0) (λ (z : Same 0 g × Same 1 f). w.1 (sym z.1))
+    (opened_11 g f w.2)
+
+-- ---- nobody else is there ----
+
+caller_is : (c : ℕ) → IsCaller o c → Same 0 c
+caller_is c is = let h : c < 1 = is in omega (arith, h)
+
+is_keeper : IsHand o 1
+is_keeper = let h : 1 ≤ 1 = omega arith in h
+
+no_insert : (t : Execution) (g : ℕ) → saw_open 0 g t ≡ false →
+    ((f : ℕ) → saw_opened 0 f t ≡ false) → (c : ℕ) → IsCaller o c → MayInsertInto c g t → ⊥
+no_insert t g shut none c is l = ⊎_elim
+    (λ (z : saw_open c g t ≡ true). not_so (sym shut
+    ∙ subst (λ (y : ℕ). saw_open y g t ≡ true) (sym (caller_is c is)) z))
+    (λ (z : (f : ℕ) × (rebuild g t ≡ Some f) × (saw_opened c f t ≡ true)). not_so (sym (none z.0)
+    ∙ subst (λ (y : ℕ). saw_opened y z.0 t ≡ true) (sym (caller_is c is)) z.2)) l
+
+nobody_in : (t : Execution) (g : ℕ) → stands_in 0 g t ≡ false → (c : ℕ) → IsCaller o c →
+    stands_in c g t ≡ true → ⊥
+nobody_in t g none c is s = not_so (sym none ∙ subst (λ (y : ℕ). stands_in y g t ≡ true)
+    (sym (caller_is c is)) s)
+
+used_slot : (side i : ℕ) → IsInUse 2 side i → Same 0 side × Same 0 i
+used_slot side i u = let e : Same 2 (2 * u.0 + side) = u.1 in let low = u.2 in let under = u.3 in
+    (omega arith, omega arith)
+
+first_slot_used : IsInUse 2 0 0
+first_slot_used = (1, refl, omega arith, omega arith)
+
+-- the slots that can be loaded are the first one
+slot_is : (t : Execution) (n : ℕ) → root o t ≡ 2 → root_seen 0 t ≡ None → slot o 0 0 t ≡ n →
+    (side i : ℕ) → IsReadableSlot o side i t → slot o side i t ≡ n
+slot_is t n is none at side i r = ⊎_elim
+    (λ (z : IsInUse (root o t) side i). let s =
+    used_slot side i (subst (λ (y : ℕ). IsInUse y side i) is z) in
+    subst (λ (y : ℕ). slot o y i t ≡ n) s.0 (subst (λ (y : ℕ). slot o 0 y t ≡ n) s.1 at))
+    (λ (z : (c : ℕ) × IsCaller o c × SeesSlot c side i t). let w = z.2 in
+    none_some (sym none ∙ subst (λ (y : ℕ). root_seen y t ≡ Some w.0)
+    (sym (caller_is z.0 z.1)) w.1)) r
+
+-- where the first slot names another group, the group is gone
+gone_if : (t : Execution) (n g : ℕ) → root o t ≡ 2 → root_seen 0 t ≡ None → slot o 0 0 t ≡ n →
+    stands_in 0 g t ≡ false → n ≢ g → ((k : ℕ) → group_of o k t ≢ g) → IsGone o g t
+gone_if t n g is none at nobody other unowned = record {
+  unowned = unowned;
+  unnamed = λ side i r e. other (sym (slot_is t n is none at side i r) ∙ e);
+  empty = nobody_in t g nobody;
+}
+
+-- ---- the first rebuild ----
+
+gone1_frozen_0 : IsGone o 1 frozen_0
+gone1_frozen_0 = gone_if frozen_0 0 1 refl refl refl refl (λ e. omega (arith, e)) not_1_in_0
+
+links1 : MayFillHeader o frozen_0 1 1 header.Next
+links1 = record {
+  keeper = refl;
+  exists = omega arith;
+  unowned = not_1_in_0;
+  stage = inl (gone1_frozen_0, (λ f e. absurd (none_1 1 f e)), (λ k e. none_some e));
+}
+
+gone1_1 : IsGone o 1 step_1
+gone1_1 = gone_if step_1 0 1 refl refl refl refl (λ e. omega (arith, e)) not_1_in_0
+
+begins1 : MayBegin o step_1 1 1 0 4 1
+begins1 = record {
+  keeper = refl;
+  exists = omega arith;
+  gone = gone1_1;
+  settled = λ f e. absurd (none_1 1 f e);
+  phase_word = refl;
+  head_word = refl;
+  closed = no_insert step_1 1 refl (λ f. refl);
+  no_row = λ p k e. cc;
+  not_live = λ k p j h e. cc;
+  no_target = λ a p y j h e. cc;
+  unreached = λ b p j is m e. cc;
+  apart = λ k f e. absurd (none_1 (group_of o k step_1) f e);
+  replaced = λ g e. absurd (none_1 g 1 e);
+  no_old_target = λ a p y g k e at s. none_1 g 1 at;
+}
+
+gone2_2 : IsGone o 2 step_2
+gone2_2 = gone_if step_2 0 2 refl refl refl refl (λ e. omega (arith, e)) not_2_in_0
+
+begins2 : MayBegin o step_2 1 2 5 greatest_key 1
+begins2 = record {
+  keeper = refl;
+  exists = omega arith;
+  gone = gone2_2;
+  settled = λ f e. absurd (none_2 2 f e);
+  phase_word = refl;
+  head_word = refl;
+  closed = no_insert step_2 2 refl (λ f. refl);
+  no_row = λ p k e. cc;
+  not_live = λ k p j h e. cc;
+  no_target = λ a p y j h e. cc;
+  unreached = λ b p j is m e. cc;
+  apart = λ k f e. absurd (none_2 (group_of o k step_2) f e);
+  replaced = λ g e. absurd (none_2 g 2 e);
+  no_old_target = λ a p y g k e at s. none_2 g 2 at;
+}
+
+-- the groups that the first rebuild made
+made_by_1 : (h : ℕ) → rebuild h step_3 ≡ Some 1 → Same 1 h ⊎ Same 2 h
+made_by_1 h e = dite (ℕ_discrete 2 h) (λ (z : Same 2 h). inr z)
+    (λ (n : Same 2 h → ⊥). dite (ℕ_discrete 1 h) (λ (z : Same 1 h). inl z)
+    (λ (m : Same 1 h → ⊥). none_some (sym (choice-other 1 h (Some 1) None m)
+    ∙ (named_before 2 (rebuild h step_2) 1
+    (sym (choice-other 2 h (Some 1) (unless_named 2 (rebuild h step_2)) n) ∙ e)).1)))
+
+-- the first rebuild's groups are 1 up to the key 4, and then 2
+new_at : (k h : ℕ) → successor k step_3 ≡ Some h → (Same 1 h × (k ≤ 4)) ⊎ (Same 2 h × (5 ≤ k))
+new_at k h e = go (nat_lt 4 k) refl (nat_lt k 5) refl e
+  where
+    go : (x : Bool) → nat_lt 4 k ≡ x → (y : Bool) → nat_lt k 5 ≡ y →
+        successor k step_3 ≡ Some h → (Same 1 h × (k ≤ 4)) ⊎ (Same 2 h × (5 ≤ k))
+    go false low y high e = let below : k ≤ 4 = ltb-false 4 k low in
+        inl (
+          at_key (λ a b w. a ≡ true → SameOption (new_1 a b) (Some h) → Same 1 h)
+              (λ is f. some_is f) (λ is f. not_so is) (λ is f. not_so is) k (is_low k below) e,
+          below,
+        )
+    go true low true high e = let above : 4 < k = ltb-true 4 k low in
+        let below : k < 5 = ltb-true k 5 high in absurd (omega (arith, above, below))
+    go true low false high e = let above : 4 < k = ltb-true 4 k low in
+        inr (
+          at_key (λ a b w. a ≡ false → SameOption (new_1 a b) (Some h) → Same 2 h)
+              (λ is f. not_so (sym is)) (λ is f. some_is f) (λ is f. none_some f) k (is_high k above) e,
+          omega (arith, above),
+        )
+
+chained_1 : AreChained o 1 step_3
+chained_1 k g h made new is next n = ⊎_elim
+    (λ (x : Same 1 g × (k ≤ 4)). ⊎_elim
+    (λ (y : Same 1 h × (k + 1 ≤ 4)). absurd (n (sym x.0 ∙ y.0)))
+    (λ (y : Same 2 h × (5 ≤ k + 1)). let border : 5 ≡ k + 1 = omega (arith, x.1, y.1) in
+    subst (λ (i : ℕ). (word o step_3 (Header i header.Next) ≡ h + 1)
+    × (word o step_3 (Header h header.Pivot) ≡ k + 1)) x.0
+    (subst (λ (i : ℕ). (word o step_3 (Header 1 header.Next) ≡ i + 1)
+    × (word o step_3 (Header i header.Pivot) ≡ k + 1)) y.0 (refl, border)))
+    (new_at (k + 1) h next))
+    (λ (x : Same 2 g × (5 ≤ k)). ⊎_elim
+    (λ (y : Same 1 h × (k + 1 ≤ 4)). absurd (omega (arith, x.1, y.1)))
+    (λ (y : Same 2 h × (5 ≤ k + 1)). absurd (n (sym x.0 ∙ y.0)))
+    (new_at (k + 1) h next))
+    (new_at k g is)
+
+new_below : (k h : ℕ) → successor k step_3 ≡ Some h → k ≤ greatest_key
+new_below k h e = (in_range 0 greatest_key k (at_key
+    (λ a b w. SameOption (new_1 a b) (Some h) → w ≡ true) (λ f. refl) (λ f. refl)
+    (λ f. none_some f) k e)).1
+
+has_new_1 : (k : ℕ) → k ≤ greatest_key → HasNewGroup 1 k step_3
+has_new_1 k below = at_key (λ a b w. w ≡ true →
+    (h : ℕ) × SameOption (new_1 a b) (Some h) × SameOption (rebuild h step_3) (Some 1))
+    (λ e. (1, refl, refl)) (λ e. (2, refl, refl)) (λ e. not_so e) k
+    (range_in 0 greatest_key k (omega arith) below)
+
+behind_1 : (k : ℕ) → group_of o k step_3 ≡ 0 → IsBehindFirst o 1 k step_3
+behind_1 k e =
+    let below = (in_range 0 greatest_key k (at_key (λ a b w. Same (cond w 0 4) 0 → w ≡ true)
+    (λ f. refl) (λ f. refl) (λ f. absurd (omega (arith, f))) k e)).1 in
+    let first : 0 ≤ k = omega arith in
+    (first, λ j above under. has_new_1 j (omega (arith, below, under)))
+
+ends_1 : (k h : ℕ) → successor k step_3 ≡ Some h → rebuild h step_3 ≡ Some 1 →
+    (HasNewGroup 1 (k + 1) step_3 → ⊥) → IsNextWord o step_3 k (word o step_3 (Header h header.Next))
+ends_1 k h new made last = go (nat_lt k greatest_key) refl
+  where
+    go : (x : Bool) → nat_lt k greatest_key ≡ x →
+        IsNextWord o step_3 k (word o step_3 (Header h header.Next))
+    go true e = let more : k < greatest_key = ltb-true k greatest_key e in
+        absurd (last (has_new_1 (k + 1) (omega (arith, more))))
+    go false e = let above : greatest_key ≤ k = ltb-false k greatest_key e in
+        let below = new_below k h new in
+        ⊎_elim (λ (z : Same 1 h × (k ≤ 4)). absurd (omega (arith, above, z.1)))
+        (λ (z : Same 2 h × (5 ≤ k)). inl (
+          omega (arith, above, below),
+          subst (λ (y : ℕ). word o step_3 (Header y header.Next) ≡ 0) z.0 refl,
+        ))
+        (new_at k h new)
+
+opens0 : MayOpen o step_3 1 0 1
+opens0 = record {
+  keeper = refl;
+  frozen = refl;
+  closed = no_insert step_3 0 refl (λ f. refl);
+  named = refl;
+  begun = (0, refl);
+  fresh = λ h e. ⊎_elim (λ (z : Same 1 h). subst (λ (y : ℕ). phase y step_3 ≡ Open) z refl)
+      (λ (z : Same 2 h). subst (λ (y : ℕ). phase y step_3 ≡ Open) z refl) (made_by_1 h e);
+  unchained = λ k h e at. ⊎_elim (λ (z : Same 1 h). not_1_in_0 k (at ∙ sym z))
+      (λ (z : Same 2 h). not_2_in_0 k (at ∙ sym z)) (made_by_1 h e);
+  planned = at_key (λ a b w. Same (cond w 0 4) 0 →
+      (h : ℕ) × SameOption (new_1 a b) (Some h) × SameOption (rebuild h step_3) (Some 1))
+      (λ e. (1, refl, refl)) (λ e. (2, refl, refl)) (λ e. absurd (omega (arith, e)));
+  behind = behind_1;
+  chained = chained_1;
+  ends = ends_1;
+  siblings = λ j at. absurd (none_3 j 1 at);
+  only = λ g e at. absurd (none_3 g e at);
+  past = λ h e at from. absurd (none_3 h e at);
+}
+
+whole_1 : (w v : Bool) → Same (cond w 0 4) (cond v 0 4) → w ≡ v
+whole_1 true true e = refl
+whole_1 false false e = refl
+whole_1 true false e = absurd (omega (arith, e))
+whole_1 false true e = absurd (omega (arith, e))
+
+-- the array of a group without keys
+sized_empty : (t : Execution) (g : ℕ) → ((i k : ℕ) → role o i t ≢ InArray g k) →
+    word o t (Header g header.Size) ≡ 0 → word o t (Header g header.LineError) ≡ 0 → IsSized o g t
+sized_empty t g none size error = record {
+  keys = [];
+  array = λ k. none (array_address (limits o) g 0) k;
+  size = size;
+  error = error;
+}
+
+installs_1 : MayInstall o step_4 1 (FirstSlot 0) 1 0 greatest_key
+installs_1 = record {
+  keeper = refl;
+  leads = (refl, first_slot_used);
+  first = (refl, refl);
+  starts = refl;
+  ends = λ h e. let two : Same 2 h = some_is e in
+      inl (refl, subst (λ (y : ℕ). word o step_4 (Header y header.Next) ≡ 0) two refl);
+  whole = λ j k e. whole_1 (within 0 j greatest_key) (within 0 k greatest_key) e;
+  all_old = λ j k f is at. at_key (λ a b w. phase (cond w 0 4) step_4 ≡ Opened f → w ≡ true)
+      (λ e. refl) (λ e. refl) (λ e. absurd (open_not e)) k;
+  sized = λ k h is new. ⊎_elim
+      (λ (x : Same 1 h × (k ≤ 4)). subst (λ (y : ℕ). IsSized o y step_4) x.0
+      (sized_empty step_4 1 (λ i j e. cc) refl refl))
+      (λ (x : Same 2 h × (5 ≤ k)). subst (λ (y : ℕ). IsSized o y step_4) x.0
+      (sized_empty step_4 2 (λ i j e. cc) refl refl))
+      (new_at k h new);
+  all_new = λ j k h is new. at_key (λ a b w. SameOption (new_1 a b) (Some h) → w ≡ true)
+      (λ e. refl) (λ e. refl) (λ e. none_some e) k;
+  opened = at_key (λ a b w. w ≡ true →
+      (f : ℕ) × (h : ℕ) × (phase (cond w 0 4) step_4 ≡ Opened f) × SameOption (new_1 a b) (Some h)
+      × SameOption (rebuild h step_4) (Some f) × (phase h step_4 ≡ Open))
+      (λ e. (1, 1, refl, refl, refl, refl)) (λ e. (1, 2, refl, refl, refl, refl))
+      (λ e. not_so e);
+  merged = λ k h p is new e. none_some e;
+}
+
+valid_5 : Valid o step_5
+valid_5 = (
+  installs_1,
+  (
+    opens0,
+    (
+      begins2,
+      (
+        begins1,
+        (
+          links1,
+          (record { keeper = refl; was = refl; chained = (0, refl) }, tt, is_keeper),
+          is_keeper,
+        ),
+        is_keeper,
+      ),
+      is_keeper,
+    ),
+    is_keeper,
+  ),
+  is_keeper,
+)
+
+-- ---- the second rebuild ----
+
+gone3_frozen_1 : IsGone o 3 frozen_1
+gone3_frozen_1 = gone_if frozen_1 1 3 refl refl refl refl (λ e. omega (arith, e)) not_3_in_1
+
+not_3_yet : (k : ℕ) → successor k frozen_1 ≢ Some 3
+not_3_yet = at_key (λ a b w. SameOption (new_1 a b) (Some 3) → ⊥)
+    (λ e. let bad : Same 1 3 = some_is e in omega (arith, bad))
+    (λ e. let bad : Same 2 3 = some_is e in omega (arith, bad)) (λ e. none_some e)
+
+links3 : MayFillHeader o frozen_1 1 3 header.Next
+links3 = record {
+  keeper = refl;
+  exists = omega arith;
+  unowned = not_3_in_1;
+  stage = inl (
+    gone3_frozen_1,
+    (λ f e. let bad = (opened_6 3 f e).0 in absurd (omega (arith, bad))),
+    not_3_yet,
+  );
+}
+
+gone3_6 : IsGone o 3 step_6
+gone3_6 = gone_if step_6 1 3 refl refl refl refl (λ e. omega (arith, e)) not_3_in_1
+
+begins3 : MayBegin o step_6 1 3 0 4 3
+begins3 = record {
+  keeper = refl;
+  exists = omega arith;
+  gone = gone3_6;
+  settled = λ f e. let bad = (opened_6 3 f e).0 in absurd (omega (arith, bad));
+  phase_word = refl;
+  head_word = refl;
+  closed = no_insert step_6 3 refl (λ f. refl);
+  no_row = λ p k e. cc;
+  not_live = λ k p j h e. cc;
+  no_target = λ a p y j h e. cc;
+  unreached = λ b p j is m e. cc;
+  apart = λ k f e. absurd (not_0_in_1 k (sym (opened_6 (group_of o k step_6) f e).0));
+  replaced = λ g e. let bad = (opened_6 g 3 e).1 in absurd (omega (arith, bad));
+  no_old_target = λ a p y g k e at s. let bad = (opened_6 g 3 at).1 in omega (arith, bad);
+}
+
+-- the groups that the second rebuild made
+made_by_3 : (h : ℕ) → rebuild h step_7 ≡ Some 3 → Same 3 h
+made_by_3 h e = dite (ℕ_discrete 3 h) (λ (z : Same 3 h). z)
+    (λ (n : Same 3 h → ⊥). absurd ((named_before 3 (rebuild h step_6) 3
+    (sym (choice-other 3 h (Some 3) (unless_named 3 (rebuild h step_6)) n) ∙ e)).0 refl))
+
+gone0_7 : IsGone o 0 step_7
+gone0_7 = gone_if step_7 1 0 refl refl refl refl (λ e. omega (arith, e)) not_0_in_1
+
+has_new_3 : (k : ℕ) → k ≤ 4 → HasNewGroup 3 k step_7
+has_new_3 k below = at_key (λ a b w. a ≡ true →
+    (h : ℕ) × SameOption (new_2 a b) (Some h) × SameOption (rebuild h step_7) (Some 3))
+    (λ e. (3, refl, refl)) (λ e. not_so e) (λ e. not_so e) k (is_low k below)
+
+behind_3 : (k : ℕ) → group_of o k step_7 ≡ 1 → IsBehindFirst o 3 k step_7
+behind_3 k e =
+    let below = (in_range 0 4 k (at_key (λ a b w. Same (group_1 a b w) 1 → a ≡ true)
+    (λ f. refl) (λ f. absurd (omega (arith, f))) (λ f. absurd (omega (arith, f))) k e)).1 in
+    let first : 0 ≤ k = omega arith in
+    (first, λ j above under. has_new_3 j (omega (arith, below, under)))
+
+ends_3 : (k h : ℕ) → successor k step_7 ≡ Some h → rebuild h step_7 ≡ Some 3 →
+    (HasNewGroup 3 (k + 1) step_7 → ⊥) → IsNextWord o step_7 k (word o step_7 (Header h header.Next))
+ends_3 k h new made last = go (nat_lt k 4) refl
+  where
+    three : Same 3 h
+    three = made_by_3 h made
+
+    below : k ≤ 4
+    below = (in_range 0 4 k (at_key (λ a b w. SameOption (new_2 a b) (Some h) → a ≡ true)
+        (λ f. refl)
+        (λ f. let two : Same 2 h = some_is f in let is = three in absurd (omega (arith, two, is)))
+        (λ f. none_some f) k new)).1
+
+    go : (x : Bool) → nat_lt k 4 ≡ x →
+        IsNextWord o step_7 k (word o step_7 (Header h header.Next))
+    go true e = let more : k < 4 = ltb-true k 4 e in
+        absurd (last (has_new_3 (k + 1) (omega (arith, more))))
+    go false e = let above : 4 ≤ k = ltb-false k 4 e in let under = below in
+        let four : 4 ≡ k = omega (arith, above, under) in
+        inr (
+          omega (arith, four),
+          subst (λ (y : ℕ). word o step_7 (Header y header.Next) ≡ group_of o (k + 1) step_7 + 1) three
+              (subst (λ (i : ℕ). word o step_7 (Header 3 header.Next) ≡ group_of o (i + 1) step_7 + 1)
+              four refl),
+        )
+
+opens1 : MayOpen o step_7 1 1 3
+opens1 = record {
+  keeper = refl;
+  frozen = refl;
+  closed = no_insert step_7 1 refl (λ f. refl);
+  named = refl;
+  begun = (0, refl);
+  fresh = λ h e. subst (λ (y : ℕ). phase y step_7 ≡ Open) (made_by_3 h e) refl;
+  unchained = λ k h e at. not_3_in_1 k (at ∙ sym (made_by_3 h e));
+  planned = at_key (λ a b w. Same (group_1 a b w) 1 →
+      (h : ℕ) × SameOption (new_2 a b) (Some h) × SameOption (rebuild h step_7) (Some 3))
+      (λ e. (3, refl, refl)) (λ e. absurd (omega (arith, e))) (λ e. absurd (omega (arith, e)));
+  behind = behind_3;
+  chained = λ k g h made new is next n. absurd (n (sym (made_by_3 g made) ∙ made_by_3 h new));
+  ends = ends_3;
+  siblings = λ j at. let bad = (opened_7 j 3 at).1 in absurd (omega (arith, bad));
+  only = λ g e at. inr (subst (λ (y : ℕ). IsGone o y step_7) (opened_7 g e at).0 gone0_7);
+  past = λ h e at from. subst (λ (y : ℕ). IsGone o y step_7) (opened_7 h e at).0 gone0_7;
+}
+
+whole_2 : (j k : ℕ) → group_of o j step_8 ≡ group_of o k step_8 → within 0 j 4 ≡ within 0 k 4
+whole_2 j k = at_key (λ a b w. Same (group_1 a b w) (group_of o k step_8) → a ≡ within 0 k 4)
+    (at_key (λ a b w. Same 1 (group_1 a b w) → true ≡ a) (λ e. refl)
+    (λ e. absurd (omega (arith, e))) (λ e. absurd (omega (arith, e))) k)
+    (at_key (λ a b w. Same 2 (group_1 a b w) → false ≡ a) (λ e. absurd (omega (arith, e)))
+    (λ e. refl) (λ e. refl) k)
+    (at_key (λ a b w. Same 4 (group_1 a b w) → false ≡ a) (λ e. absurd (omega (arith, e)))
+    (λ e. refl) (λ e. refl) k)
+    j
+
+made_third : (j h : ℕ) → within 0 j 4 ≡ true → successor j step_8 ≡ Some h → Same 3 h
+made_third j h = at_key (λ a b w. a ≡ true → SameOption (new_2 a b) (Some h) → Same 3 h)
+    (λ is e. some_is e) (λ is e. not_so is) (λ is e. not_so is) j
+
+installs_2 : MayInstall o step_8 1 (FirstSlot 0) 3 0 4
+installs_2 = record {
+  keeper = refl;
+  leads = (refl, first_slot_used);
+  first = (refl, refl);
+  starts = refl;
+  ends = λ h e. let three : Same 3 h = some_is e in
+      inr (omega arith, subst (λ (y : ℕ). word o step_8 (Header y header.Next) ≡ 3) three refl);
+  whole = whole_2;
+  all_old = λ j k f is at. at_key (λ a b w. phase (group_1 a b w) step_8 ≡ Opened f → a ≡ true)
+      (λ e. refl) (λ e. absurd (open_not e)) (λ e. absurd (open_not e)) k;
+  sized = λ k h is new. subst (λ (y : ℕ). IsSized o y step_8) (made_third k h is new)
+      (sized_empty step_8 3 (λ i j e. cc) refl refl);
+  all_new = λ j k h is new. at_key (λ a b w. SameOption (new_2 a b) (Some h) → a ≡ true)
+      (λ e. refl)
+      (λ e. let two : Same 2 h = some_is e in let three = made_third j h is new in
+      absurd (omega (arith, two, three)))
+      (λ e. none_some e) k;
+  opened = at_key (λ a b w. a ≡ true →
+      (f : ℕ) × (h : ℕ) × (phase (group_1 a b w) step_8 ≡ Opened f)
+      × SameOption (new_2 a b) (Some h) × SameOption (rebuild h step_8) (Some f)
+      × (phase h step_8 ≡ Open))
+      (λ e. (3, 3, refl, refl, refl, refl)) (λ e. not_so e) (λ e. not_so e);
+  merged = λ k h p is new e. none_some e;
+}
+
+gone1_frozen_2 : IsGone o 1 frozen_2
+gone1_frozen_2 = gone_if frozen_2 3 1 refl refl refl refl (λ e. omega (arith, e)) not_1_in_2
+
+gone0_frozen_2 : IsGone o 0 frozen_2
+gone0_frozen_2 = gone_if frozen_2 3 0 refl refl refl refl (λ e. omega (arith, e)) not_0_in_2
+
+settled1_frozen_2 : IsSettled o 1 frozen_2
+settled1_frozen_2 f at g e = ⊎_elim
+    (λ (z : Same 1 g × Same 3 f). subst (λ (y : ℕ). IsGone o y frozen_2) z.0 gone1_frozen_2)
+    (λ (z : Same 0 g × Same 1 f). subst (λ (y : ℕ). IsGone o y frozen_2) z.0 gone0_frozen_2)
+    (opened_11 g f e)
+
+fills1 : MayFillHeader o frozen_2 1 1 header.Phase
+fills1 = record {
+  keeper = refl;
+  exists = omega arith;
+  unowned = not_1_in_2;
+  stage = inl (gone1_frozen_2, settled1_frozen_2, not_1_after);
+}
+
+valid_10 : Valid o step_10
+valid_10 = (
+  fills1,
+  (
+    record { keeper = refl; was = refl; chained = (5, refl) },
+    (
+      installs_2,
+      (
+        opens1,
+        (
+          begins3,
+          (
+            links3,
+            (record { keeper = refl; was = refl; chained = (0, refl) }, valid_5, is_keeper),
+            is_keeper,
+          ),
+          is_keeper,
+        ),
+        is_keeper,
+      ),
+      is_keeper,
+    ),
+    is_keeper,
+  ),
+  is_keeper,
+)
+
+-- ---- the name is used again ----
+
+gone1_10 : IsGone o 1 step_10
+gone1_10 = gone_if step_10 3 1 refl refl refl refl (λ e. omega (arith, e)) not_1_in_2
+
+gone0_10 : IsGone o 0 step_10
+gone0_10 = gone_if step_10 3 0 refl refl refl refl (λ e. omega (arith, e)) not_0_in_2
+
+settled1_10 : IsSettled o 1 step_10
+settled1_10 f at g e = ⊎_elim
+    (λ (z : Same 1 g × Same 3 f). subst (λ (y : ℕ). IsGone o y step_10) z.0 gone1_10)
+    (λ (z : Same 0 g × Same 1 f). subst (λ (y : ℕ). IsGone o y step_10) z.0 gone0_10)
+    (opened_11 g f e)
+
+links_again : MayFillHeader o step_10 1 1 header.Next
+links_again = record {
+  keeper = refl;
+  exists = omega arith;
+  unowned = not_1_in_2;
+  stage = inl (gone1_10, settled1_10, not_1_after);
+}
+
+gone1_11 : IsGone o 1 step_11
+gone1_11 = gone_if step_11 3 1 refl refl refl refl (λ e. omega (arith, e)) not_1_in_2
+
+gone0_11 : IsGone o 0 step_11
+gone0_11 = gone_if step_11 3 0 refl refl refl refl (λ e. omega (arith, e)) not_0_in_2
+
+valid_11 : Valid o step_11
+valid_11 = (links_again, valid_10, is_keeper)
+
+begins_again : MayBegin o step_11 1 1 5 greatest_key 1
+begins_again = record {
+  keeper = refl;
+  exists = omega arith;
+  gone = gone1_11;
+  settled = λ f e g at. ⊎_elim
+      (λ (z : Same 1 g × Same 3 f). subst (λ (y : ℕ). IsGone o y step_11) z.0 gone1_11)
+      (λ (z : Same 0 g × Same 1 f). subst (λ (y : ℕ). IsGone o y step_11) z.0 gone0_11)
+      (opened_11 g f at);
+  phase_word = refl;
+  head_word = refl;
+  closed = no_insert step_11 1 refl (λ f. refl);
+  no_row = λ p k e. cc;
+  not_live = λ k p j h e. cc;
+  no_target = λ a p y j h e. cc;
+  unreached = λ b p j is m e. cc;
+  apart = λ k f e. absurd (⊎_elim
+      (λ (z : Same 1 (group_of o k step_11) × Same 3 f). not_1_in_2 k (sym z.0))
+      (λ (z : Same 0 (group_of o k step_11) × Same 1 f). not_0_in_2 k (sym z.0))
+      (opened_11 (group_of o k step_11) f e));
+  replaced = λ g e. ⊎_elim
+      (λ (z : Same 1 g × Same 3 1). let bad = z.1 in absurd (omega (arith, bad)))
+      (λ (z : Same 0 g × Same 1 1). subst (λ (y : ℕ). IsGone o y step_11) z.0 gone0_11)
+      (opened_11 g 1 e);
+  no_old_target = λ a p y g k e at s. cc;
+}
+
+-- the rebuild whose name is used again made its own first group alone: group 2 is forgotten
+made_again : (h : ℕ) → rebuild h step_12 ≡ Some 1 → Same 1 h
+made_again h e = dite (ℕ_discrete 1 h) (λ (z : Same 1 h). z)
+    (λ (n : Same 1 h → ⊥). absurd ((named_before 1 (rebuild h step_11) 1
+    (sym (choice-other 1 h (Some 1) (unless_named 1 (rebuild h step_11)) n) ∙ e)).0 refl))
+
+has_new_again : (k : ℕ) → 5 ≤ k → k ≤ greatest_key → HasNewGroup 1 k step_12
+has_new_again k above below = at_key (λ a b w. b ≡ true →
+    (h : ℕ) × SameOption (new_3 a b) (Some h) × SameOption (rebuild h step_12) (Some 1))
+    (λ e. not_so e) (λ e. (1, refl, refl)) (λ e. not_so e) k (range_in 5 greatest_key k above below)
+
+behind_again : (k : ℕ) → group_of o k step_12 ≡ 2 → IsBehindFirst o 1 k step_12
+behind_again k e =
+    let at = in_range 5 greatest_key k (at_key (λ a b w. Same (group_2 a b w) 2 → b ≡ true)
+    (λ f. absurd (omega (arith, f))) (λ f. refl) (λ f. absurd (omega (arith, f))) k e) in (
+      at.0,
+      λ j above under. let low : 5 ≤ j = above in let high = at.1 in
+          has_new_again j low (omega (arith, high, under)),
+    )
+
+ends_again : (k h : ℕ) → successor k step_12 ≡ Some h → rebuild h step_12 ≡ Some 1 →
+    (HasNewGroup 1 (k + 1) step_12 → ⊥) →
+    IsNextWord o step_12 k (word o step_12 (Header h header.Next))
+ends_again k h new made last = go (nat_lt k greatest_key) refl
+  where
+    one : Same 1 h
+    one = made_again h made
+
+    at : (5 ≤ k) × (k ≤ greatest_key)
+    at = in_range 5 greatest_key k (at_key (λ a b w. SameOption (new_3 a b) (Some h) → b ≡ true)
+        (λ f. let three : Same 3 h = some_is f in let is = one in absurd (omega (arith, three, is)))
+        (λ f. refl) (λ f. none_some f) k new)
+
+    go : (x : Bool) → nat_lt k greatest_key ≡ x →
+        IsNextWord o step_12 k (word o step_12 (Header h header.Next))
+    go true e = let more : k < greatest_key = ltb-true k greatest_key e in let low = at.0 in
+        absurd (last (has_new_again (k + 1) (omega (arith, low)) (omega (arith, more))))
+    go false e = let above : greatest_key ≤ k = ltb-false k greatest_key e in let high = at.1 in
+        inl (
+          omega (arith, above, high),
+          subst (λ (y : ℕ). word o step_12 (Header y header.Next) ≡ 0) one refl,
+        )
+
+opens2 : MayOpen o step_12 1 2 1
+opens2 = record {
+  keeper = refl;
+  frozen = refl;
+  closed = no_insert step_12 2 refl (λ f. refl);
+  named = refl;
+  begun = (5, refl);
+  fresh = λ h e. subst (λ (y : ℕ). phase y step_12 ≡ Open) (made_again h e) refl;
+  unchained = λ k h e at. not_1_in_2 k (at ∙ sym (made_again h e));
+  planned = at_key (λ a b w. Same (group_2 a b w) 2 →
+      (h : ℕ) × SameOption (new_3 a b) (Some h) × SameOption (rebuild h step_12) (Some 1))
+      (λ e. absurd (omega (arith, e))) (λ e. (1, refl, refl)) (λ e. absurd (omega (arith, e)));
+  behind = behind_again;
+  chained = λ k g h made new is next n. absurd (n (sym (made_again g made) ∙ made_again h new));
+  ends = ends_again;
+  siblings = λ j at. absurd (none_12 j 1 at);
+  only = λ g e at. absurd (none_12 g e at);
+  past = λ h e at from. absurd (none_12 h e at);
+}
+
+pub name_again_valid : NamesAreUsedAgain
+name_again_valid = (
+  four_group_layout,
+  refl,
+  (opens2, (begins_again, valid_11, is_keeper), is_keeper),
+)

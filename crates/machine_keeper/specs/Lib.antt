@@ -1,0 +1,4 @@
+pub mod Marks
+pub mod Keeper
+pub mod Witness
+pub mod NameUsedAgain

@@ -1,0 +1,126 @@
+-- A whole rebuild, with callers' steps in between, to its end with a row and a group row used
+-- again.
+--
+-- The table has one caller, whose number is 0, a keeper, 1, two record rows, at 87 and 91, and two
+-- groups. The first place of the array of group 1 is 55.
+use Rattle.std.specs.Prelude.{◌≡◌, false, [], ◌∷◌}
+use Rattle.word_layout.specs.declared.limits.Limits.{Limits}
+use Rattle.word_layout.specs.declared.layout.Layout.{Layout}
+use Rattle.word_layout.specs.Layout.{limits_of}
+use Rattle.word_layout.specs.declared.places.Part.TheVariants.{Key, Value, Link}
+use Rattle.map_model.specs.declared.entries.Change.TheVariants as change
+use Rattle.index_machine.specs.declared.events.Action.TheVariants.{Enter, Leave, LoadFree}
+use Rattle.index_machine.specs.declared.events.Action.TheVariants.{LoadFreeLink}
+use Rattle.index_machine.specs.declared.events.Action.TheVariants.{PopFree, StorePrivate, PushFree}
+use Rattle.index_machine.specs.declared.events.Action.TheVariants.{LoadState, Lock, StoreValue}
+use Rattle.index_machine.specs.declared.events.Action.TheVariants.{Unlock}
+use Rattle.index_machine.specs.declared.events.Action.TheVariants.{LoadHead, LinkRow, Retire}
+use Rattle.index_machine.specs.declared.events.Action.TheVariants.{LoadPhase}
+use Rattle.index_machine.specs.declared.events.Action.TheVariants.{Freeze, NewGroup, StoreArray}
+use Rattle.index_machine.specs.declared.events.Action.TheVariants.{StoreRedirect, StoreOpened}
+use Rattle.index_machine.specs.declared.events.Action.TheVariants.{Install}
+use Rattle.index_machine.specs.declared.events.Action.TheVariants.{Close, Copy, StoreDirect}
+use Rattle.index_machine.specs.declared.events.Action.TheVariants.{StoreMoved}
+use Rattle.index_machine.specs.declared.events.Action.TheVariants.{LoadRoot, LoadSlotGroup}
+use Rattle.index_machine.specs.declared.events.Action.TheVariants.{StoreHeader}
+use Rattle.word_layout.specs.declared.headers.HeaderWord.TheVariants as header
+use Rattle.index_machine.specs.declared.events.InstallWord.TheVariants.{FirstSlot}
+use Rattle.index_machine.specs.Execution.{Execution, event}
+use Rattle.index_machine.specs.Openings.{greatest_key}
+use Rattle.index_machine.specs.Conditions.{Valid}
+
+-- the limits of a small table
+abbrev pub small_limits : Limits
+small_limits =
+    record {
+      callers = 1;
+      records = 2;
+      groups = 2;
+      group_size = 8;
+      slots = 1;
+      due = 1;
+      help = 1;
+      chain = 1;
+      first_version = 0;
+    }
+
+-- a caller puts the key 5 with the value 7: it pops row 87, fills it and links it into group 0
+abbrev pub with_a_record : Execution
+with_a_record =
+    event 0 (Leave 2)
+    ∷ event 0 (LinkRow 0 87 (change.Put 0 5 7) 0 0)
+    ∷ event 0 (StorePrivate 87 Link 0)
+    ∷ event 0 (StorePrivate 87 Value 7)
+    ∷ event 0 (StorePrivate 87 Key 5)
+    ∷ event 0 (PopFree 87 91)
+    ∷ event 0 (LoadFreeLink 87 91)
+    ∷ event 0 (LoadFree 87)
+    ∷ event 0 (LoadPhase 0 0)
+    ∷ event 0 (LoadSlotGroup 0 0 0)
+    ∷ event 0 (LoadRoot 2)
+    ∷ event 0 (Enter 1)
+    ∷ []
+
+-- the keeper freezes group 0, begins group 1 and opens group 0 to it
+abbrev pub opened_to_group_1 : Execution
+opened_to_group_1 =
+    event 1 (StoreOpened 0 1)
+    ∷ event 1 (NewGroup 1 0 greatest_key 1)
+    ∷ event 1 (Freeze 0)
+    ∷ with_a_record
+
+-- a caller puts 8 at the key in the old group
+abbrev pub changed_meanwhile : Execution
+changed_meanwhile =
+    event 0 (Leave 4)
+    ∷ event 0 (Unlock 87 false (change.Put 0 5 8) 16)
+    ∷ event 0 (StoreValue 87 8)
+    ∷ event 0 (Lock 87 0)
+    ∷ event 0 (LoadState 87 0)
+    ∷ event 0 (LoadHead 0 87)
+    ∷ event 0 (LoadPhase 0 6)
+    ∷ event 0 (LoadSlotGroup 0 0 0)
+    ∷ event 0 (LoadRoot 2)
+    ∷ event 0 (Enter 3)
+    ∷ opened_to_group_1
+
+-- the keeper merges, installs and copies, and gives row 87 back
+abbrev pub rebuilt : Execution
+rebuilt =
+    event 1 (PushFree 87 91)
+    ∷ event 1 (StorePrivate 87 Link 91)
+    ∷ event 1 (Retire 87 0)
+    ∷ event 1 (StoreMoved 87)
+    ∷ event 1 (StoreDirect 55 87 5 false 0)
+    ∷ event 1 (Copy 55 8)
+    ∷ event 1 (Close 87 16)
+    ∷ event 1 (Install (FirstSlot 0) 1 0 greatest_key)
+    ∷ event 1 (StoreHeader 1 header.Size 1)
+    ∷ event 1 (StoreRedirect 1 55 5 87)
+    ∷ event 1 (StoreArray 1 55 Key 5)
+    ∷ changed_meanwhile
+
+-- a caller pops row 87 again
+abbrev pub with_the_row_used_again : Execution
+with_the_row_used_again =
+    event 0 (Leave 6)
+    ∷ event 0 (PopFree 87 91)
+    ∷ event 0 (LoadFreeLink 87 91)
+    ∷ event 0 (LoadFree 87)
+    ∷ event 0 (Enter 5)
+    ∷ rebuilt
+
+-- the next rebuild begins in the row of group 0, whose header it writes first
+abbrev pub whole_rebuild : Execution
+whole_rebuild =
+    event 1 (NewGroup 0 0 greatest_key 0)
+    ∷ event 1 (StoreHeader 0 header.BufferHead 0)
+    ∷ event 1 (StoreHeader 0 header.Phase 0)
+    ∷ event 1 (Freeze 1)
+    ∷ with_the_row_used_again
+
+-- on some table with these limits the whole rebuild is valid, so all conditions can be met together
+abbrev pub WholeRebuildIsValid : Type 0
+WholeRebuildIsValid =
+    (layout : Layout) × (limits_of layout ≡ small_limits)
+    × Valid (record { layout = layout }) whole_rebuild
