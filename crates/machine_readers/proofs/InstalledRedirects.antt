@@ -35,7 +35,7 @@ use Rattle.machine_readers.specs.Redirects.{InstalledRedirects, RedirectsInto}
 use Rattle.word_layout.specs.declared.phase.Phase.{Phase}
 use Rattle.word_layout.specs.declared.phase.Phase.TheVariants.{Frozen, Open, Opened}
 
--- no group saw_opened a spent rebuild
+-- no group comes to be opened to a rebuild that is over
 same_rebuild_back : (o : Opening) (t : Execution) (b : ℕ) (d : Action) (g j f : ℕ) →
     Allowed o t b d →
     phase g t ≡ Opened f → IsGone o g t → phase j (event b d ∷ t) ≡ Opened f → phase j t ≡ Opened f

@@ -85,7 +85,7 @@ phase_not : {X : Type 0} {x : Phase} {f : ℕ} (g h : ℕ) (t : Execution) → p
     (x ≡ Opened f → ⊥) → g ≡ h → phase h t ≡ Opened f → X
 phase_not g h t e never z at = absurd (never (sym e ∙ (ap (λ (y : ℕ). phase y t) z ∙ at)))
 
--- an opened group stays opened while a caller stands_in there
+-- an opened group stays opened while a caller stands there
 pub opened_step : (o : Opening) (t : Execution) (b : ℕ) (d : Action) (c g f : ℕ) → Allowed o t b d →
     IsCaller o c → stands_in c g t ≡ true → phase g t ≡ Opened f →
     phase g (event b d ∷ t) ≡ Opened f

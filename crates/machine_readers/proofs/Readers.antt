@@ -46,7 +46,7 @@ module _ (o : Opening) (starts : Starts o) where
   pub agreement : (t : Execution) → Valid o t → MapAgrees o t
   agreement t valid = map_agrees o starts.opening_live starts.opening_map_agrees t valid
 
-  -- D15: the live_place is one of the key's places, and a living place is the live_place
+  -- the live place is one of the key's places, and a place with a value is the live place
   pub live_places_placed : (t : Execution) → Valid o t → LivePlacesStand o t
   live_places_placed t valid =
       live_places_stand o starts.opening_live starts.opening_map_agrees starts.opening_places t valid
@@ -73,7 +73,7 @@ module _ (o : Opening) (starts : Starts o) where
       go None e h = h
       go (Some q) e h = none_some (sym e)
 
-  -- where no place of the key live_value it has no live_place
+  -- where no place of the key has a value it has no live place
   pub has_no_live_place : (t : Execution) → Valid o t → (k : ℕ) →
       ((p : ℕ) → IsPlaceOf o t k p → live_value (form o p t) ≡ None) → live_place o k t ≡ None
   has_no_live_place t valid k no_place = go (live_place o k t) refl
@@ -173,7 +173,7 @@ module _ (o : Opening) (starts : Starts o) where
           (λ (v : (f : ℕ) × (phase (group_of o k t) t ≡ Opened f) × (successor k t ≡ Some w.0)).
           absurd (un v.0 (ap (λ (i : ℕ). phase i t) (sym b.0) ∙ v.1))) w.2) z) place
 
-  -- while the caller stands_in in the old group and nobody may freeze the new one under it, this
+  -- while the caller stands in the old group and nobody may freeze the new one under it, this
   -- lasts
   behind_step : (t : Execution) (b : ℕ) (d : Action) (c g f h k : ℕ) → Valid o t → Allowed o t b d →
       IsCaller o c → stands_in c g t ≡ true → IsUnopened h t → g ≢ h → IsBehind o t g f h k →

@@ -194,7 +194,7 @@ reached_stays o t b d c p k may is m e = ⊎_elim (λ (z : role o p (event b d �
     (NewGroup w.0 w.1 w.2 w.3) w.5 may).unreached c p w.4 is m w.6)) z)
     (role_stays o t b d p k may e)
 
--- and an array place while the caller stands_in in its group
+-- and an array place while the caller stands in its group
 pub array_stays : (o : Opening) (t : Execution) (b : ℕ) (d : Action) (c p g k : ℕ) →
     Allowed o t b d → IsCaller o c → stands_in c g t ≡ true → role o p t ≡ InArray g k →
     role o p (event b d ∷ t) ≡ InArray g k
@@ -211,7 +211,7 @@ array_stays o t b d c p g k may is s e = ⊎_elim
     (subst (λ (y : ℕ). stands_in c y t ≡ true) same s))) z)
     (role_stays o t b d p k may (ap role_key e))
 
--- and a row while it stands_in in the group
+-- and a row while it stands in the group
 pub row_stays : (o : Opening) (t : Execution) (b : ℕ) (d : Action) (c p g k : ℕ) → Allowed o t b d →
     IsCaller o c → stands_in c g t ≡ true → role o p t ≡ InBuffer g k →
     role o p (event b d ∷ t) ≡ InBuffer g k
