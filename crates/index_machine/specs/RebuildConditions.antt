@@ -58,6 +58,7 @@ pub record MayLoadPhase (o : Opening) (hand group found : ℕ) (t : Execution) :
 -- the keeper may freeze a group of the chain that is open
 pub record MayFreeze (o : Opening) (hand group : ℕ) (t : Execution) : Type 0 where
   pub keeper : IsKeeper o hand
+  pub exists : group < (limits o).groups
   pub was : phase group t ≡ Open
   pub chained : (k : ℕ) × (group_of o k t ≡ group)
 
@@ -92,6 +93,7 @@ pub record MayBegin (o : Opening) (t : Execution) (hand group low high first : �
     : Type 0 where
   pub keeper : IsKeeper o hand
   pub exists : group < (limits o).groups
+  pub ordered : (low ≤ high) × (high ≤ greatest_key)
   pub gone : IsGone o group t
   pub settled : IsSettled o group t
   -- the words of a new group: it is open, and its buffer is empty
@@ -157,10 +159,11 @@ AreChained o first t =
 abbrev pub HasNewGroup : ℕ → ℕ → Execution → Type 0
 HasNewGroup first k t = (h : ℕ) × (successor k t ≡ Some h) × (rebuild h t ≡ Some first)
 
--- the first new group has the least of the keys up to this one
+-- the first new group has its pivot, and from there up to this key each has a new group
 abbrev pub IsBehindFirst : Opening → ℕ → ℕ → Execution → Type 0
 IsBehindFirst o first k t =
     (word o t (Header first header.Pivot) ≤ k)
+    × (successor (word o t (Header first header.Pivot)) t ≡ Some first)
     × ((j : ℕ) → word o t (Header first header.Pivot) ≤ j → j ≤ k → HasNewGroup first j t)
 
 -- the next word of a group whose keys end here
@@ -175,8 +178,6 @@ pub record MayOpen (o : Opening) (t : Execution) (hand group f : ℕ) : Type 0 w
   pub frozen : phase group t ≡ Frozen
   pub closed : IsClosedToInserts o group t
   pub named : rebuild f t ≡ Some f
-  -- it was begun, and not taken out again since
-  pub begun : (k : ℕ) × (successor k t ≡ Some f)
   pub fresh : (h : ℕ) → rebuild h t ≡ Some f → phase h t ≡ Open
   pub unchained : (k h : ℕ) → rebuild h t ≡ Some f → group_of o k t ≢ h
   pub planned : (k : ℕ) → group_of o k t ≡ group → HasNewGroup f k t
@@ -221,6 +222,7 @@ pub record MayInstall (o : Opening) (t : Execution) (hand : ℕ) (spot : Install
   pub leads : IsInstallWord o t low spot
   -- the group named first has the first of these keys
   pub first : (within low low high ≡ true) × (successor low t ≡ Some lead)
+  pub named : rebuild lead t ≡ Some lead
   pub starts : word o t (Header lead header.Pivot) ≡ low
   -- and the last one leads to the group behind them, if there is one
   pub ends : (h : ℕ) → successor high t ≡ Some h → IsNextWord o t high (word o t (Header h header.Next))
@@ -229,11 +231,12 @@ pub record MayInstall (o : Opening) (t : Execution) (hand : ℕ) (spot : Install
   pub opened : (k : ℕ) → within low k high ≡ true →
       (f : ℕ) × (h : ℕ) × (phase (group_of o k t) t ≡ Opened f) × (successor k t ≡ Some h)
       × (rebuild h t ≡ Some f) × (phase h t ≡ Open)
-  -- all groups of a rebuild, old ones and new ones, at once
+  -- all groups that were opened to a rebuild, and all that it made, at once
   pub all_old : (j k f : ℕ) → within low j high ≡ true → phase (group_of o j t) t ≡ Opened f →
       phase (group_of o k t) t ≡ Opened f → within low k high ≡ true
-  pub all_new : (j k h : ℕ) → within low j high ≡ true → successor j t ≡ Some h →
-      successor k t ≡ Some h → within low k high ≡ true
+  pub all_new : (j k f g h : ℕ) → within low j high ≡ true → successor j t ≡ Some g →
+      rebuild g t ≡ Some f → successor k t ≡ Some h → rebuild h t ≡ Some f →
+      within low k high ≡ true
   pub sized : (k h : ℕ) → within low k high ≡ true → successor k t ≡ Some h → IsSized o h t
   -- each live place that stands in what goes has its redirect
   pub merged : (k h p : ℕ) → within low k high ≡ true → successor k t ≡ Some h →

@@ -348,6 +348,7 @@ begins1 : MayBegin o step_1 1 1 0 4 1
 begins1 = record {
   keeper = refl;
   exists = omega arith;
+  ordered = (omega arith, omega arith);
   gone = gone1_1;
   settled = λ f e. absurd (none_1 1 f e);
   phase_word = refl;
@@ -369,6 +370,7 @@ begins2 : MayBegin o step_2 1 2 5 greatest_key 1
 begins2 = record {
   keeper = refl;
   exists = omega arith;
+  ordered = (omega arith, omega arith);
   gone = gone2_2;
   settled = λ f e. absurd (none_2 2 f e);
   phase_word = refl;
@@ -444,7 +446,7 @@ behind_1 k e =
     let below = (in_range 0 greatest_key k (at_key (λ a b w. Same (cond w 0 4) 0 → w ≡ true)
     (λ f. refl) (λ f. refl) (λ f. absurd (omega (arith, f))) k e)).1 in
     let first : 0 ≤ k = omega arith in
-    (first, λ j above under. has_new_1 j (omega (arith, below, under)))
+    (first, refl, λ j above under. has_new_1 j (omega (arith, below, under)))
 
 ends_1 : (k h : ℕ) → successor k step_3 ≡ Some h → rebuild h step_3 ≡ Some 1 →
     (HasNewGroup 1 (k + 1) step_3 → ⊥) → IsNextWord o step_3 k (word o step_3 (Header h header.Next))
@@ -469,7 +471,6 @@ opens0 = record {
   frozen = refl;
   closed = no_insert step_3 0 refl (λ f. refl);
   named = refl;
-  begun = (0, refl);
   fresh = λ h e. ⊎_elim (λ (z : Same 1 h). subst (λ (y : ℕ). phase y step_3 ≡ Open) z refl)
       (λ (z : Same 2 h). subst (λ (y : ℕ). phase y step_3 ≡ Open) z refl) (made_by_1 h e);
   unchained = λ k h e at. ⊎_elim (λ (z : Same 1 h). not_1_in_0 k (at ∙ sym z))
@@ -506,6 +507,7 @@ installs_1 = record {
   keeper = refl;
   leads = (refl, first_slot_used);
   first = (refl, refl);
+  named = refl;
   starts = refl;
   ends = λ h e. let two : Same 2 h = some_is e in
       inl (refl, subst (λ (y : ℕ). word o step_4 (Header y header.Next) ≡ 0) two refl);
@@ -518,8 +520,8 @@ installs_1 = record {
       (λ (x : Same 2 h × (5 ≤ k)). subst (λ (y : ℕ). IsSized o y step_4) x.0
       (sized_empty step_4 2 (λ i j e. cc) refl refl))
       (new_at k h new);
-  all_new = λ j k h is new. at_key (λ a b w. SameOption (new_1 a b) (Some h) → w ≡ true)
-      (λ e. refl) (λ e. refl) (λ e. none_some e) k;
+  all_new = λ j k f g h is new made next too. at_key (λ a b w. SameOption (new_1 a b) (Some h) → w ≡ true)
+      (λ e. refl) (λ e. refl) (λ e. none_some e) k next;
   opened = at_key (λ a b w. w ≡ true →
       (f : ℕ) × (h : ℕ) × (phase (cond w 0 4) step_4 ≡ Opened f) × SameOption (new_1 a b) (Some h)
       × SameOption (rebuild h step_4) (Some f) × (phase h step_4 ≡ Open))
@@ -539,7 +541,7 @@ valid_5 = (
         begins1,
         (
           links1,
-          (record { keeper = refl; was = refl; chained = (0, refl) }, tt, is_keeper),
+          (record { keeper = refl; exists = omega arith; was = refl; chained = (0, refl) }, tt, is_keeper),
           is_keeper,
         ),
         is_keeper,
@@ -580,6 +582,7 @@ begins3 : MayBegin o step_6 1 3 0 4 3
 begins3 = record {
   keeper = refl;
   exists = omega arith;
+  ordered = (omega arith, omega arith);
   gone = gone3_6;
   settled = λ f e. let bad = (opened_6 3 f e).0 in absurd (omega (arith, bad));
   phase_word = refl;
@@ -613,7 +616,7 @@ behind_3 k e =
     let below = (in_range 0 4 k (at_key (λ a b w. Same (group_1 a b w) 1 → a ≡ true)
     (λ f. refl) (λ f. absurd (omega (arith, f))) (λ f. absurd (omega (arith, f))) k e)).1 in
     let first : 0 ≤ k = omega arith in
-    (first, λ j above under. has_new_3 j (omega (arith, below, under)))
+    (first, refl, λ j above under. has_new_3 j (omega (arith, below, under)))
 
 ends_3 : (k h : ℕ) → successor k step_7 ≡ Some h → rebuild h step_7 ≡ Some 3 →
     (HasNewGroup 3 (k + 1) step_7 → ⊥) → IsNextWord o step_7 k (word o step_7 (Header h header.Next))
@@ -647,7 +650,6 @@ opens1 = record {
   frozen = refl;
   closed = no_insert step_7 1 refl (λ f. refl);
   named = refl;
-  begun = (0, refl);
   fresh = λ h e. subst (λ (y : ℕ). phase y step_7 ≡ Open) (made_by_3 h e) refl;
   unchained = λ k h e at. not_3_in_1 k (at ∙ sym (made_by_3 h e));
   planned = at_key (λ a b w. Same (group_1 a b w) 1 →
@@ -680,6 +682,7 @@ installs_2 = record {
   keeper = refl;
   leads = (refl, first_slot_used);
   first = (refl, refl);
+  named = refl;
   starts = refl;
   ends = λ h e. let three : Same 3 h = some_is e in
       inr (omega arith, subst (λ (y : ℕ). word o step_8 (Header y header.Next) ≡ 3) three refl);
@@ -688,11 +691,16 @@ installs_2 = record {
       (λ e. refl) (λ e. absurd (open_not e)) (λ e. absurd (open_not e)) k;
   sized = λ k h is new. subst (λ (y : ℕ). IsSized o y step_8) (made_third k h is new)
       (sized_empty step_8 3 (λ i j e. cc) refl refl);
-  all_new = λ j k h is new. at_key (λ a b w. SameOption (new_2 a b) (Some h) → a ≡ true)
+  all_new = λ j k f g h is new made next too. at_key
+      (λ a b w. SameOption (new_2 a b) (Some h) → a ≡ true)
       (λ e. refl)
-      (λ e. let two : Same 2 h = some_is e in let three = made_third j h is new in
-      absurd (omega (arith, two, three)))
-      (λ e. none_some e) k;
+      (λ e. let two : Same 2 h = some_is e in
+      let third : Same 3 f = some_is (subst (λ (y : ℕ). SameOption (rebuild y step_8) (Some f))
+      (sym (made_third j g is new)) made) in
+      let first : Same 1 f = some_is (subst (λ (y : ℕ). SameOption (rebuild y step_8) (Some f))
+      (sym two) too) in
+      absurd (omega (arith, third, first)))
+      (λ e. none_some e) k next;
   opened = at_key (λ a b w. a ≡ true →
       (f : ℕ) × (h : ℕ) × (phase (group_1 a b w) step_8 ≡ Opened f)
       × SameOption (new_2 a b) (Some h) × SameOption (rebuild h step_8) (Some f)
@@ -725,7 +733,7 @@ valid_10 : Valid o step_10
 valid_10 = (
   fills1,
   (
-    record { keeper = refl; was = refl; chained = (5, refl) },
+    record { keeper = refl; exists = omega arith; was = refl; chained = (5, refl) },
     (
       installs_2,
       (
@@ -734,7 +742,7 @@ valid_10 = (
           begins3,
           (
             links3,
-            (record { keeper = refl; was = refl; chained = (0, refl) }, valid_5, is_keeper),
+            (record { keeper = refl; exists = omega arith; was = refl; chained = (0, refl) }, valid_5, is_keeper),
             is_keeper,
           ),
           is_keeper,
@@ -783,6 +791,7 @@ begins_again : MayBegin o step_11 1 1 5 greatest_key 1
 begins_again = record {
   keeper = refl;
   exists = omega arith;
+  ordered = (omega arith, omega arith);
   gone = gone1_11;
   settled = λ f e g at. ⊎_elim
       (λ (z : Same 1 g × Same 3 f). subst (λ (y : ℕ). IsGone o y step_11) z.0 gone1_11)
@@ -822,6 +831,7 @@ behind_again k e =
     let at = in_range 5 greatest_key k (at_key (λ a b w. Same (group_2 a b w) 2 → b ≡ true)
     (λ f. absurd (omega (arith, f))) (λ f. refl) (λ f. absurd (omega (arith, f))) k e) in (
       at.0,
+      refl,
       λ j above under. let low : 5 ≤ j = above in let high = at.1 in
           has_new_again j low (omega (arith, high, under)),
     )
@@ -855,7 +865,6 @@ opens2 = record {
   frozen = refl;
   closed = no_insert step_12 2 refl (λ f. refl);
   named = refl;
-  begun = (5, refl);
   fresh = λ h e. subst (λ (y : ℕ). phase y step_12 ≡ Open) (made_again h e) refl;
   unchained = λ k h e at. not_1_in_2 k (at ∙ sym (made_again h e));
   planned = at_key (λ a b w. Same (group_2 a b w) 2 →

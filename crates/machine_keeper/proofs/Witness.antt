@@ -227,6 +227,7 @@ begins1 : MayBegin o opened_1 1 1 0 greatest_key 1
 begins1 = record {
   keeper = refl;
   exists = omega arith;
+  ordered = (omega arith, omega arith);
   gone = gone1_opened_1;
   settled = λ f e. absurd (frozen_unopened false f e);
   phase_word = refl;
@@ -276,7 +277,7 @@ behind_1 : (k : ℕ) → group_of o k opened_2 ≡ 0 → IsBehindFirst o 1 k ope
 behind_1 k e =
     let below = new_below k 1 (planned_new (within 0 k greatest_key) e) in
     let first : 0 ≤ k = omega arith in
-    (first, λ j above under. has_new j (omega (arith, below, under)))
+    (first, refl, λ j above under. has_new j (omega (arith, below, under)))
 
 ends_1 : (k h : ℕ) → successor k opened_2 ≡ Some h → rebuild h opened_2 ≡ Some 1 →
     (HasNewGroup 1 (k + 1) opened_2 → ⊥) → IsNextWord o opened_2 k (word o opened_2 (Header h header.Next))
@@ -300,7 +301,6 @@ opens0 = record {
   frozen = refl;
   closed = no_insert opened_2 0 refl refl;
   named = refl;
-  begun = (0, refl);
   fresh = λ h e. fresh_new (1 == h) (0 == h) e;
   unchained = λ k h e z. dite (ℕ_discrete 1 h)
       (λ (s : Same 1 h). before_group (within 0 k greatest_key) (z ∙ sym s))
@@ -321,7 +321,7 @@ valid_opened_3 = (
   opens0,
   (
     begins1,
-    (record { keeper = refl; was = refl; chained = (0, refl) }, valid_put_12, is_hand1),
+    (record { keeper = refl; exists = omega arith; was = refl; chained = (0, refl) }, valid_put_12, is_hand1),
     is_hand1,
   ),
   is_hand1,
@@ -492,6 +492,7 @@ installs_it = record {
   keeper = refl;
   leads = (refl, first_slot_used);
   first = (refl, refl);
+  named = refl;
   starts = refl;
   ends = λ h e. let one : Same 1 h = some_is e in
       inl (refl, subst (λ (y : ℕ). word o rebuilt_2 (Header y header.Next) ≡ 0) one refl);
@@ -499,7 +500,7 @@ installs_it = record {
   all_old = λ j k f is at e. old_within (within 0 k greatest_key) f e;
   sized = λ k h is new. subst (λ (y : ℕ). IsSized o y rebuilt_2)
       (new_group (within 0 k greatest_key) h new) sized_1;
-  all_new = λ j k h is new e. new_within (within 0 k greatest_key) h e;
+  all_new = λ j k f g h is new made next too. new_within (within 0 k greatest_key) h next;
   opened = λ k is. (
     1,
     1,
@@ -747,7 +748,7 @@ valid_popped_5 = (
 )
 
 valid_again_1 : Valid o again_1
-valid_again_1 = (record { keeper = refl; was = refl; chained = (0, refl) }, valid_popped_5, is_hand1)
+valid_again_1 = (record { keeper = refl; exists = omega arith; was = refl; chained = (0, refl) }, valid_popped_5, is_hand1)
 
 row_again : (w v : Bool) (k : ℕ) → cond w (HeldBy 0)
     (cond w Unused (cond w (HeldBy 1) (cond v (InArray 1 5)
@@ -832,6 +833,7 @@ begins_again : MayBegin o again_3 1 0 0 greatest_key 0
 begins_again = record {
   keeper = refl;
   exists = omega arith;
+  ordered = (omega arith, omega arith);
   gone = gone0_again_3;
   settled = settled0 again_3 gone0_again_3 opened_at;
   phase_word = refl;
