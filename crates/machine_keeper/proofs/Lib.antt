@@ -4,5 +4,7 @@ pub mod FromOpening
 pub mod Ranges
 pub mod SmallForms
 pub mod SmallTable
+pub mod OpenedWitness
 pub mod Witness
+pub mod FourGroups
 pub mod NameUsedAgain

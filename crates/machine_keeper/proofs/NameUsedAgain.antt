@@ -1,19 +1,19 @@
 -- A rebuild whose name is used again is valid while another group of the old rebuild of this name
 -- is still in the chain.
-use Rattle.std.proofs.Common.{◌≡◌, ◌≢◌, ℕ, ◌+◌, ◌*◌, ◌<◌, ◌≤◌, inl, inr, ⊎_elim, Option, Some}
-use Rattle.std.proofs.Common.{None, Bool, true, false, [], ◌∷◌, cond, refl, sym, ◌∙◌, subst}
+use Rattle.std.proofs.Common.{◌≡◌, ◌≢◌, ℕ, ◌+◌, ◌<◌, ◌≤◌, inl, inr, ⊎_elim, Some}
+use Rattle.std.proofs.Common.{None, Bool, true, false, [], cond, refl, sym, ◌∙◌, subst}
 use Rattle.std.proofs.Common.{arith, nat_lt, ◌⊎◌}
-use Rattle.std.proofs.lemmas.Bool.{le-ltb, lt-ltb, ltb-false, ltb-true}
+use Rattle.machine_keeper.proofs.Ranges.{Same, SameOption}
+use Rattle.std.proofs.lemmas.Bool.{ltb-false, ltb-true}
 use mathlib.Core.Logic.{dite}
 use native.Mathlib.Decide.{ℕ_discrete}
-use Rattle.index_machine.proofs.Executions.{choice-other, choice-same}
+use Rattle.index_machine.proofs.Executions.{choice-other}
 use Rattle.index_machine.specs.Conditions.{Valid}
-use Rattle.index_machine.specs.Execution.{Execution, event}
-use Rattle.index_machine.specs.Groups.{IsInUse, phase, rebuild, root, slot, unless_named}
-use Rattle.index_machine.specs.KeyRanges.{group_of, or_else, successor}
+use Rattle.index_machine.specs.Execution.{Execution}
+use Rattle.index_machine.specs.Groups.{phase, rebuild, unless_named}
+use Rattle.index_machine.specs.KeyRanges.{group_of, successor}
 use Rattle.index_machine.specs.Openings.{greatest_key, within}
-use Rattle.index_machine.specs.Permissions.{IsGone, IsReadableSlot, MayInsertInto}
-use Rattle.index_machine.specs.Reaching.{SeesSlot, root_seen, saw_open, saw_opened, stands_in}
+use Rattle.index_machine.specs.Permissions.{IsGone}
 use Rattle.index_machine.specs.RebuildConditions.{AreChained, HasNewGroup, IsBehindFirst}
 use Rattle.index_machine.specs.RebuildConditions.{IsNextWord, IsSettled, IsSized, MayBegin}
 use Rattle.index_machine.specs.RebuildConditions.{MayFillHeader, MayInstall, MayOpen}
@@ -22,311 +22,22 @@ use Rattle.machine_keeper.proofs.Ranges.{in_range, range_in}
 use Rattle.index_machine.specs.Rows.{InArray, role}
 use Rattle.word_layout.specs.Addresses.{array_address}
 use Rattle.word_layout.specs.Words.{Header}
-use Rattle.index_machine.specs.Sections.{IsCaller, IsHand}
-use Rattle.index_machine.specs.declared.events.Action.TheVariants.{Freeze, NewGroup, StoreHeader}
-use Rattle.index_machine.specs.declared.events.Action.TheVariants.{StoreOpened, Install}
 use Rattle.index_machine.specs.declared.events.InstallWord.TheVariants.{FirstSlot}
-use Rattle.index_machine.specs.declared.opening.Opening.{Opening}
-use Rattle.machine_barriers.proofs.OpenedGroups.{begun_back, frozen_not, open_not, opened_back}
-use Rattle.machine_barriers.proofs.OpenedGroups.{opened_is}
-use Rattle.machine_keeper.specs.NameUsedAgain.{four_groups, NamesAreUsedAgain}
+use Rattle.machine_barriers.proofs.OpenedGroups.{open_not}
+use Rattle.machine_keeper.specs.NameUsedAgain.{NamesAreUsedAgain}
 use Rattle.machine_places.proofs.Forms.{named_before, none_some, not_so, some_is}
 use Rattle.word_layout.specs.declared.headers.HeaderWord.TheVariants as header
-use Rattle.word_layout.specs.declared.layout.Layout.{Layout}
-use Rattle.word_layout.specs.declared.phase.Phase.TheVariants.{Frozen, Open, Opened}
-
--- ---- the table ----
-
-abbrev four_group_layout : Layout
-four_group_layout =
-    record {
-      limits = four_groups;
-      group_words = 40;
-      groups_from = 7;
-      rows_from = 167;
-      kept = record {
-        least_callers = omega arith;
-        most_callers = omega arith;
-        least_records = omega arith;
-        most_records = omega arith;
-        least_groups = omega arith;
-        most_groups = omega arith;
-        least_group_size = omega arith;
-        most_group_size = omega arith;
-        least_slots = omega arith;
-        most_slots = omega arith;
-        least_due = omega arith;
-        most_due = omega arith;
-        least_help = omega arith;
-        most_help = omega arith;
-        least_chain = omega arith;
-        most_chain = omega arith;
-        most_first_version = omega arith;
-        most_words = omega arith;
-      };
-      group_width = refl;
-      groups_behind_slots = refl;
-      rows_behind_groups = refl;
-    }
-
-abbrev o : Opening
-o = record { layout = four_group_layout }
-
--- ---- the execution, event by event ----
-
-abbrev frozen_0 : Execution
-frozen_0 = event 1 (Freeze 0) ∷ []
-
-abbrev step_1 : Execution
-step_1 = event 1 (StoreHeader 1 header.Next 3) ∷ frozen_0
-
-abbrev step_2 : Execution
-step_2 = event 1 (NewGroup 1 0 4 1) ∷ step_1
-
-abbrev step_3 : Execution
-step_3 = event 1 (NewGroup 2 5 greatest_key 1) ∷ step_2
-
-abbrev step_4 : Execution
-step_4 = event 1 (StoreOpened 0 1) ∷ step_3
-
-abbrev step_5 : Execution
-step_5 = event 1 (Install (FirstSlot 0) 1 0 greatest_key) ∷ step_4
-
-abbrev frozen_1 : Execution
-frozen_1 = event 1 (Freeze 1) ∷ step_5
-
-abbrev step_6 : Execution
-step_6 = event 1 (StoreHeader 3 header.Next 3) ∷ frozen_1
-
-abbrev step_7 : Execution
-step_7 = event 1 (NewGroup 3 0 4 3) ∷ step_6
-
-abbrev step_8 : Execution
-step_8 = event 1 (StoreOpened 1 3) ∷ step_7
-
-abbrev step_9 : Execution
-step_9 = event 1 (Install (FirstSlot 0) 3 0 4) ∷ step_8
-
-abbrev frozen_2 : Execution
-frozen_2 = event 1 (Freeze 2) ∷ step_9
-
-abbrev step_10 : Execution
-step_10 = event 1 (StoreHeader 1 header.Phase 0) ∷ frozen_2
-
-abbrev step_11 : Execution
-step_11 = event 1 (StoreHeader 1 header.Next 0) ∷ step_10
-
-abbrev step_12 : Execution
-step_12 = event 1 (NewGroup 1 5 greatest_key 1) ∷ step_11
-
--- ---- the keys, in two ranges ----
-
-abbrev Same : ℕ → ℕ → Type 0
-Same a b = a ≡ b
-
-abbrev SameOption : Option ℕ → Option ℕ → Type 0
-SameOption a b = a ≡ b
-
--- whether a key is in the low range, in the high one, and a key at all
-abbrev IsSplit : Bool → Bool → Bool → Type 0
-IsSplit true false true = Unit {0}
-IsSplit false true true = Unit {0}
-IsSplit false false false = Unit {0}
-IsSplit _ _ _ = ⊥
-
--- by the four comparisons of a key with the ends of the ranges
-split_cases : (x y z v : Bool) → x ≡ false →
-    ((y ≡ false) × (z ≡ true) × (v ≡ false)) ⊎ ((y ≡ true) × (z ≡ false)) →
-    IsSplit (cond x false (cond y false true)) (cond z false (cond v false true))
-    (cond x false (cond v false true))
-split_cases true y z v e h = not_so (sym e)
-split_cases false false true false e h = tt
-split_cases false true false false e h = tt
-split_cases false true false true e h = tt
-split_cases false false z v e h = ⊎_elim
-    (λ (p : (false ≡ false) × (z ≡ true) × (v ≡ false)). low z v p.1 p.2)
-    (λ (p : (false ≡ true) × (z ≡ false)). not_so p.0) h
-  where
-    low : (z v : Bool) → z ≡ true → v ≡ false →
-        IsSplit true (cond z false (cond v false true)) (cond v false true)
-    low true false e f = tt
-    low false v e f = not_so e
-    low true true e f = not_so (sym f)
-split_cases false true true v e h = ⊎_elim
-    (λ (p : (true ≡ false) × (true ≡ true) × (v ≡ false)). not_so (sym p.0))
-    (λ (p : (true ≡ true) × (true ≡ false)). not_so (sym p.1)) h
-
--- each number is of one of the three kinds
-split : (k : ℕ) → IsSplit (within 0 k 4) (within 5 k greatest_key) (within 0 k greatest_key)
-split k = split_cases (nat_lt k 0) (nat_lt 4 k) (nat_lt k 5) (nat_lt greatest_key k)
-    (le-ltb k 0 (omega arith)) (go (nat_lt 4 k) refl)
-  where
-    go : (y : Bool) → nat_lt 4 k ≡ y →
-        ((nat_lt 4 k ≡ false) × (nat_lt k 5 ≡ true) × (nat_lt greatest_key k ≡ false))
-        ⊎ ((nat_lt 4 k ≡ true) × (nat_lt k 5 ≡ false))
-    go false e = let h : k ≤ 4 = ltb-false 4 k e in
-        inl (e, lt-ltb k 5 (omega (arith, h)), le-ltb greatest_key k (omega (arith, h)))
-    go true e = let h : 4 < k = ltb-true 4 k e in inr (e, le-ltb k 5 (omega (arith, h)))
-
--- the low range has just the keys up to 4
-is_low : (k : ℕ) → k ≤ 4 → within 0 k 4 ≡ true
-is_low k below = rw (le-ltb k 0 (omega arith), le-ltb 4 k below) refl
-
-is_high : (k : ℕ) → 4 < k → within 0 k 4 ≡ false
-is_high k above = rw (le-ltb k 0 (omega arith), lt-ltb 4 k above) refl
-
--- ---- groups and new groups of a key in these ranges ----
-
--- the new group of a key in these ranges, and its group: after the first rebuild, then after the
--- second, and the new group once the name is used again
-abbrev new_1 : Bool → Bool → Option ℕ
-new_1 a b = cond b (Some 2) (unless_named 2 (cond a (Some 1) None))
-
-abbrev group_1 : Bool → Bool → Bool → ℕ
-group_1 a b w = cond w (or_else (new_1 a b) (cond w 0 4)) (cond w 0 4)
-
-abbrev new_2 : Bool → Bool → Option ℕ
-new_2 a b = cond a (Some 3) (unless_named 3 (new_1 a b))
-
-abbrev group_2 : Bool → Bool → Bool → ℕ
-group_2 a b w = cond a (or_else (new_2 a b) (group_1 a b w)) (group_1 a b w)
-
-abbrev new_3 : Bool → Bool → Option ℕ
-new_3 a b = cond b (Some 1) (unless_named 1 (new_2 a b))
-
--- a statement of a key's ranges, from the three kinds of number
-by_range : (P : Bool → Bool → Bool → Type 0) → P true false true → P false true true →
-    P false false false → (a b w : Bool) → IsSplit a b w → P a b w
-by_range P low high none true false true s = low
-by_range P low high none false true true s = high
-by_range P low high none false false false s = none
-by_range P low high none true true true s = absurd s
-by_range P low high none true true false s = absurd s
-by_range P low high none true false false s = absurd s
-by_range P low high none false true false s = absurd s
-by_range P low high none false false true s = absurd s
-
--- so of every number
-at_key : (P : Bool → Bool → Bool → Type 0) → P true false true → P false true true →
-    P false false false → (k : ℕ) →
-    P (within 0 k 4) (within 5 k greatest_key) (within 0 k greatest_key)
-at_key P low high none k = by_range P low high none (within 0 k 4) (within 5 k greatest_key)
-    (within 0 k greatest_key) (split k)
-
--- which groups answer for no key: at first, after the first install, and after the second
-not_1_in_0 : (k : ℕ) → group_of o k step_1 ≢ 1
-not_1_in_0 = at_key (λ a b w. Same (cond w 0 4) 1 → ⊥) (λ e. omega (arith, e))
-    (λ e. omega (arith, e)) (λ e. omega (arith, e))
-
-not_2_in_0 : (k : ℕ) → group_of o k step_1 ≢ 2
-not_2_in_0 = at_key (λ a b w. Same (cond w 0 4) 2 → ⊥) (λ e. omega (arith, e))
-    (λ e. omega (arith, e)) (λ e. omega (arith, e))
-
-not_0_in_1 : (k : ℕ) → group_of o k step_5 ≢ 0
-not_0_in_1 = at_key (λ a b w. Same (group_1 a b w) 0 → ⊥) (λ e. omega (arith, e))
-    (λ e. omega (arith, e)) (λ e. omega (arith, e))
-
-not_3_in_1 : (k : ℕ) → group_of o k step_5 ≢ 3
-not_3_in_1 = at_key (λ a b w. Same (group_1 a b w) 3 → ⊥) (λ e. omega (arith, e))
-    (λ e. omega (arith, e)) (λ e. omega (arith, e))
-
-not_0_in_2 : (k : ℕ) → group_of o k step_9 ≢ 0
-not_0_in_2 = at_key (λ a b w. Same (group_2 a b w) 0 → ⊥) (λ e. omega (arith, e))
-    (λ e. omega (arith, e)) (λ e. omega (arith, e))
-
-not_1_in_2 : (k : ℕ) → group_of o k step_9 ≢ 1
-not_1_in_2 = at_key (λ a b w. Same (group_2 a b w) 1 → ⊥) (λ e. omega (arith, e))
-    (λ e. omega (arith, e)) (λ e. omega (arith, e))
-
-not_1_after : (k : ℕ) → successor k step_9 ≢ Some 1
-not_1_after = at_key (λ a b w. SameOption (new_2 a b) (Some 1) → ⊥)
-    (λ e. let bad : Same 3 1 = some_is e in omega (arith, bad))
-    (λ e. let bad : Same 2 1 = some_is e in omega (arith, bad)) (λ e. none_some e)
-
--- ---- what was opened, and to what ----
-
-none_1 : (g f : ℕ) → phase g step_1 ≢ Opened f
-none_1 g f e = open_not (opened_back 0 g Frozen Open f frozen_not e).1
-
-none_2 : (g f : ℕ) → phase g step_2 ≢ Opened f
-none_2 g f e = none_1 g f (begun_back 1 g (phase g step_1) f e).2
-
-none_3 : (g f : ℕ) → phase g step_3 ≢ Opened f
-none_3 g f e = none_2 g f (begun_back 2 g (phase g step_2) f e).2
-
-opened_4 : (g f : ℕ) → phase g step_4 ≡ Opened f → Same 0 g × Same 1 f
-opened_4 g f e = dite (ℕ_discrete 0 g)
-    (λ (z : Same 0 g). (z, opened_is (sym (choice-same 0 g (Opened 1) (phase g step_3) z) ∙ e)))
-    (λ (n : Same 0 g → ⊥). absurd (none_3 g f
-    (sym (choice-other 0 g (Opened 1) (phase g step_3) n) ∙ e)))
-
-opened_6 : (g f : ℕ) → phase g step_6 ≡ Opened f → Same 0 g × Same 1 f
-opened_6 g f e = opened_4 g f (opened_back 1 g Frozen (phase g step_5) f frozen_not e).1
-
-opened_7 : (g f : ℕ) → phase g step_7 ≡ Opened f → Same 0 g × Same 1 f
-opened_7 g f e = opened_6 g f (begun_back 3 g (phase g step_6) f e).2
-
-opened_8 : (g f : ℕ) → phase g step_8 ≡ Opened f → (Same 1 g × Same 3 f) ⊎ (Same 0 g × Same 1 f)
-opened_8 g f e = dite (ℕ_discrete 1 g)
-    (λ (z : Same 1 g). inl (z, opened_is (sym (choice-same 1 g (Opened 3) (phase g step_7) z) ∙ e)))
-    (λ (n : Same 1 g → ⊥).
-    inr (opened_7 g f (sym (choice-other 1 g (Opened 3) (phase g step_7) n) ∙ e)))
-
-opened_11 : (g f : ℕ) → phase g step_11 ≡ Opened f → (Same 1 g × Same 3 f) ⊎ (Same 0 g × Same 1 f)
-opened_11 g f e = opened_8 g f (opened_back 2 g Frozen (phase g step_9) f frozen_not e).1
-
-none_12 : (g f : ℕ) → phase g step_12 ≢ Opened f
-none_12 g f e = let w = begun_back 1 g (phase g step_11) f e in
-    ⊎_elim (λ (z : Same 1 g × Same 3 f). w.0 z.0) (λ (z : Same 0 g × Same 1 f). w.1 (sym z.1))
-    (opened_11 g f w.2)
-
--- ---- nobody else is there ----
-
-caller_is : (c : ℕ) → IsCaller o c → Same 0 c
-caller_is c is = let h : c < 1 = is in omega (arith, h)
-
-is_keeper : IsHand o 1
-is_keeper = let h : 1 ≤ 1 = omega arith in h
-
-no_insert : (t : Execution) (g : ℕ) → saw_open 0 g t ≡ false →
-    ((f : ℕ) → saw_opened 0 f t ≡ false) → (c : ℕ) → IsCaller o c → MayInsertInto c g t → ⊥
-no_insert t g shut none c is l = ⊎_elim
-    (λ (z : saw_open c g t ≡ true). not_so (sym shut
-    ∙ subst (λ (y : ℕ). saw_open y g t ≡ true) (sym (caller_is c is)) z))
-    (λ (z : (f : ℕ) × (rebuild g t ≡ Some f) × (saw_opened c f t ≡ true)). not_so (sym (none z.0)
-    ∙ subst (λ (y : ℕ). saw_opened y z.0 t ≡ true) (sym (caller_is c is)) z.2)) l
-
-nobody_in : (t : Execution) (g : ℕ) → stands_in 0 g t ≡ false → (c : ℕ) → IsCaller o c →
-    stands_in c g t ≡ true → ⊥
-nobody_in t g none c is s = not_so (sym none ∙ subst (λ (y : ℕ). stands_in y g t ≡ true)
-    (sym (caller_is c is)) s)
-
-used_slot : (side i : ℕ) → IsInUse 2 side i → Same 0 side × Same 0 i
-used_slot side i u = let e : Same 2 (2 * u.0 + side) = u.1 in let low = u.2 in let under = u.3 in
-    (omega arith, omega arith)
-
-first_slot_used : IsInUse 2 0 0
-first_slot_used = (1, refl, omega arith, omega arith)
-
--- the slots that can be loaded are the first one
-slot_is : (t : Execution) (n : ℕ) → root o t ≡ 2 → root_seen 0 t ≡ None → slot o 0 0 t ≡ n →
-    (side i : ℕ) → IsReadableSlot o side i t → slot o side i t ≡ n
-slot_is t n is none at side i r = ⊎_elim
-    (λ (z : IsInUse (root o t) side i). let s =
-    used_slot side i (subst (λ (y : ℕ). IsInUse y side i) is z) in
-    subst (λ (y : ℕ). slot o y i t ≡ n) s.0 (subst (λ (y : ℕ). slot o 0 y t ≡ n) s.1 at))
-    (λ (z : (c : ℕ) × IsCaller o c × SeesSlot c side i t). let w = z.2 in
-    none_some (sym none ∙ subst (λ (y : ℕ). root_seen y t ≡ Some w.0)
-    (sym (caller_is z.0 z.1)) w.1)) r
-
--- where the first slot names another group, the group is gone
-gone_if : (t : Execution) (n g : ℕ) → root o t ≡ 2 → root_seen 0 t ≡ None → slot o 0 0 t ≡ n →
-    stands_in 0 g t ≡ false → n ≢ g → ((k : ℕ) → group_of o k t ≢ g) → IsGone o g t
-gone_if t n g is none at nobody other unowned = record {
-  unowned = unowned;
-  unnamed = λ side i r e. other (sym (slot_is t n is none at side i r) ∙ e);
-  empty = nobody_in t g nobody;
-}
+use Rattle.word_layout.specs.declared.phase.Phase.TheVariants.{Open, Opened}
+use Rattle.machine_keeper.proofs.FourGroups.{four_group_layout, o, frozen_0, step_1, step_2}
+use Rattle.machine_keeper.proofs.FourGroups.{step_3, step_4, step_5, frozen_1, step_6, step_7}
+use Rattle.machine_keeper.proofs.FourGroups.{step_8, frozen_2, step_10, step_11, step_12}
+use Rattle.machine_keeper.proofs.FourGroups.{is_low, is_high, new_1, group_1, new_2, group_2}
+use Rattle.machine_keeper.proofs.FourGroups.{new_3, at_key, not_1_in_0, not_2_in_0}
+use Rattle.machine_keeper.proofs.FourGroups.{not_0_in_1, not_3_in_1, not_0_in_2, not_1_in_2}
+use Rattle.machine_keeper.proofs.FourGroups.{not_1_after, none_1, none_2, none_3}
+use Rattle.machine_keeper.proofs.FourGroups.{opened_6, opened_7, opened_11, none_12}
+use Rattle.machine_keeper.proofs.FourGroups.{is_keeper, no_insert}
+use Rattle.machine_keeper.proofs.FourGroups.{first_slot_used, gone_if}
 
 -- ---- the first rebuild ----
 
