@@ -11,13 +11,14 @@ use Rattle.index_machine.specs.declared.events.Action.TheVariants.{LoadEpoch, En
 use Rattle.index_machine.specs.declared.events.Action.TheVariants.{LoadFree}
 use Rattle.index_machine.specs.declared.events.Action.TheVariants.{LoadFreeLink, PopFree, FailPop}
 use Rattle.index_machine.specs.declared.events.Action.TheVariants.{StorePrivate, PushFree, FailPush}
+use Rattle.index_machine.specs.declared.events.Action.{Action}
 use Rattle.index_machine.specs.declared.opening.Opening.{Opening}
+use Rattle.index_machine.specs.Represents.{IsRepresented, Represents}
 use Rattle.index_machine.specs.Execution.{Execution, event}
 use Rattle.index_machine.specs.Words.{word}
 use Rattle.index_machine.specs.Rows.{Role, Unused, HeldBy, role, role_key, Holds}
 use Rattle.index_machine.specs.Forms.{HasValueWord}
 use Rattle.index_machine.specs.Places.{form}
-use Rattle.index_machine.specs.Represents.{OpeningIsRepresented, RowsAndEpochsRepresent}
 use Rattle.index_machine.proofs.Executions.{choice-same, choice-other}
 use Rattle.index_machine.proofs.Stores.{store_apart}
 use Rattle.index_machine.proofs.Counting.{counted}
@@ -25,6 +26,28 @@ use Rattle.index_machine.proofs.Linking.{linked}
 
 pub none-some : {X : Type 0} {k : ℕ} → None ≡ Some k → X
 none-some e = cc
+
+-- the action is on an epoch word, on the free stack or on a row in a hand
+abbrev pub IsOnRowsOrEpochs : Action → Type 0
+IsOnRowsOrEpochs (LoadEpoch caller found) = Unit {0}
+IsOnRowsOrEpochs (Enter n) = Unit {0}
+IsOnRowsOrEpochs (Leave n) = Unit {0}
+IsOnRowsOrEpochs (LoadFree found) = Unit {0}
+IsOnRowsOrEpochs (LoadFreeLink place found) = Unit {0}
+IsOnRowsOrEpochs (PopFree place next) = Unit {0}
+IsOnRowsOrEpochs (FailPop expected found) = Unit {0}
+IsOnRowsOrEpochs (StorePrivate place at value) = Unit {0}
+IsOnRowsOrEpochs (PushFree place head) = Unit {0}
+IsOnRowsOrEpochs (FailPush place expected found) = Unit {0}
+IsOnRowsOrEpochs _ = ⊥
+
+-- the words of the table as it is opened stand for its state
+abbrev pub OpeningIsRepresented : Type 0
+OpeningIsRepresented = (o : Opening) → IsRepresented o []
+
+-- the actions on epoch words, on the free stack and on rows in hands keep that
+abbrev pub RowsAndEpochsRepresent : Type 0
+RowsAndEpochsRepresent = (action : Action) → IsOnRowsOrEpochs action → Represents action
 
 pub opening_represented : OpeningIsRepresented
 opening_represented o =

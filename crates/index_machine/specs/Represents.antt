@@ -12,10 +12,6 @@ use Rattle.word_layout.specs.declared.phase.Phase.TheVariants.{Open, Frozen, Ope
 use Rattle.word_layout.specs.Phase.{word_of_phase}
 use Rattle.word_layout.specs.Words.{Root, Epoch, SlotGroup, Header, PlaceWord}
 use Rattle.index_machine.specs.declared.events.Action.{Action}
-use Rattle.index_machine.specs.declared.events.Action.TheVariants.{LoadEpoch, Enter, Leave}
-use Rattle.index_machine.specs.declared.events.Action.TheVariants.{LoadFree}
-use Rattle.index_machine.specs.declared.events.Action.TheVariants.{LoadFreeLink, PopFree, FailPop}
-use Rattle.index_machine.specs.declared.events.Action.TheVariants.{StorePrivate, PushFree, FailPush}
 use Rattle.index_machine.specs.declared.events.Action.TheVariants.{Freeze, Thaw, StoreHeader}
 use Rattle.index_machine.specs.declared.events.Action.TheVariants.{NewGroup}
 use Rattle.index_machine.specs.declared.events.Action.TheVariants.{StoreOpened}
@@ -80,31 +76,9 @@ Represents action =
     (o : Opening) (t : Execution) (by : ℕ) → Valid o (event by action ∷ t) → IsRepresented o t →
     IsRepresented o (event by action ∷ t)
 
--- the action is on an epoch word, on the free stack or on a row in a hand
-abbrev pub IsOnRowsOrEpochs : Action → Type 0
-IsOnRowsOrEpochs (LoadEpoch caller found) = Unit {0}
-IsOnRowsOrEpochs (Enter n) = Unit {0}
-IsOnRowsOrEpochs (Leave n) = Unit {0}
-IsOnRowsOrEpochs (LoadFree found) = Unit {0}
-IsOnRowsOrEpochs (LoadFreeLink place found) = Unit {0}
-IsOnRowsOrEpochs (PopFree place next) = Unit {0}
-IsOnRowsOrEpochs (FailPop expected found) = Unit {0}
-IsOnRowsOrEpochs (StorePrivate place at value) = Unit {0}
-IsOnRowsOrEpochs (PushFree place head) = Unit {0}
-IsOnRowsOrEpochs (FailPush place expected found) = Unit {0}
-IsOnRowsOrEpochs _ = ⊥
-
 -- ---- the laws ----
 
--- the words of the table as it is opened stand for its state
-abbrev pub OpeningIsRepresented : Type 0
-OpeningIsRepresented = (o : Opening) → IsRepresented o []
-
--- the actions on epoch words, on the free stack and on rows in hands keep that
-abbrev pub RowsAndEpochsRepresent : Type 0
-RowsAndEpochsRepresent = (action : Action) → IsOnRowsOrEpochs action → Represents action
-
--- and so does every action
+-- every action leaves words that stand for the state
 abbrev pub AllStepsRepresent : Type 0
 AllStepsRepresent = (action : Action) → Represents action
 

@@ -61,7 +61,8 @@ pub fn all_steps_represent()
     ensures { AllStepsRepresent }
 {}
 
-/// What a hand loads tells it the state: roles, forms, phases, slots and the root.
+/// What the words hold is the state: epochs, free rows, keys, forms, slots, the root, and phases but
+/// those that nobody reads.
 pub fn words_stand_for_the_state()
     ensures { WordsStandForTheState }
 {}
