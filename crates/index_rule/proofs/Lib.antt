@@ -7,3 +7,6 @@ pub mod Laid
 pub mod Ending
 pub mod FreeSteps
 pub mod Stepping
+mod Standing
+mod LockWords
+mod RecordSteps

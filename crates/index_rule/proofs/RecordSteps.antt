@@ -1,0 +1,242 @@
+-- The steps on a record meet their conditions.
+use Rattle.std.proofs.Common.{◌≡◌, ◌≢◌, ℕ, ◌+◌, ◌<◌, ◌==◌, inl, inr, ⊎_elim, Bool, true}
+use Rattle.std.proofs.Common.{false, cond, Some, [], ◌∷◌, ◌++◌, refl, sym, ap, ◌∙◌, subst, arith}
+use prog.Atomic.{either}
+use Rattle.atomic_table.specs.Table.{Me, Allows}
+use Rattle.word_layout.specs.declared.places.Part.TheVariants.{State, Value}
+use Rattle.word_layout.specs.declared.state.State.TheVariants as state
+use Rattle.word_layout.specs.State.{word_of_state}
+use Rattle.word_layout.specs.Places.{IsPlace}
+use Rattle.word_layout.specs.Words.{PlaceWord, address_of}
+use Rattle.index_machine.specs.declared.events.Action.TheVariants.{LoadState, LoadValue, Lock}
+use Rattle.index_machine.specs.declared.events.Action.TheVariants.{FailLock, StoreValue}
+use Rattle.index_machine.specs.declared.opening.Opening.{Opening}
+use Rattle.index_machine.specs.Execution.{Execution, Without}
+use Rattle.index_machine.specs.Words.{limits, word}
+use Rattle.index_machine.specs.Sections.{IsCaller, IsKeeper, IsReading}
+use Rattle.index_machine.specs.Rows.{role_key}
+use Rattle.index_machine.specs.Forms.{Form, Blank, Unlocked, Locked, Copied, Redirect, Moved}
+use Rattle.index_machine.specs.Forms.{IsLockedBy, last_version, state_word}
+use Rattle.index_machine.specs.Places.{form}
+use Rattle.index_machine.specs.Reaching.{reached}
+use Rattle.index_machine.specs.RecordConditions.{HasKey, HoldsNoLock, IsAt, IsInArrayOf, MayLookAt}
+use Rattle.index_machine.specs.RecordConditions.{MayFailLock, MayLoadState, MayLoadValue, MayLock}
+use Rattle.index_machine.specs.Conditions.{Valid}
+use Rattle.index_machine.proofs.Holders.{holds_no_lock_on}
+use Rattle.index_machine.proofs.RepresentingAll.{represented}
+use Rattle.machine_readers.proofs.FormsMet.{not_blank, reached_forms}
+use Rattle.index_rule.specs.declared.view.View.{View}
+use Rattle.index_rule.specs.LockWords.{IsLockable}
+use Rattle.index_rule.specs.Records.{CanSee}
+use Rattle.index_rule.specs.Rule.{Kept, Does, word_in}
+use Rattle.index_rule.specs.Steps.{lock_failed, lock_made, state_load, value_load}
+use Rattle.index_rule.specs.Steps.{value_store}
+use Rattle.index_rule.proofs.LockWords.{locked_on}
+use Rattle.index_rule.proofs.StepKinds.{by_name, exchanges, loads, stores}
+use Rattle.index_rule.proofs.Standing.{at_keyed, at_on, keyed_on, keyed_place, stays_inside}
+
+-- ---- what a state word says of the form ----
+
+-- a form whose state word is that of a redirect forwards
+forwards_by_word : (f : Form) (to : ℕ) → state_word f ≡ word_of_state (state.Redirect to) →
+    (p : ℕ) × (y : ℕ) × (f ≡ Redirect p y)
+forwards_by_word Blank to e = absurd (omega arith)
+forwards_by_word (Unlocked v true x) to e = absurd (omega arith)
+forwards_by_word (Unlocked v false x) to e = absurd (omega arith)
+forwards_by_word (Locked c v true x y) to e = absurd (omega arith)
+forwards_by_word (Locked c v false x y) to e = absurd (omega arith)
+forwards_by_word (Copied v true x) to e = absurd (omega arith)
+forwards_by_word (Copied v false x) to e = absurd (omega arith)
+forwards_by_word (Redirect p y) to e = (p, y, refl)
+forwards_by_word Moved to e = absurd (omega arith)
+
+-- the form is unlocked, and its version can still be raised
+abbrev IsRaisable : Form → Type 0
+IsRaisable f =
+    (version : ℕ) × (removed : Bool) × (value : ℕ) × (f ≡ Unlocked version removed value)
+    × (version < last_version)
+
+-- a form that is not blank and has the state word of an unlocked record is unlocked
+unlocked_by_word : (f : Form) (v : ℕ) (r : Bool) → f ≢ Blank → v < last_version →
+    state_word f ≡ word_of_state (state.Direct v false r) → IsRaisable f
+unlocked_by_word Blank v r filled low e = absurd (filled refl)
+unlocked_by_word (Unlocked w s x) v r filled low e = (w, s, x, refl, least w v s r e low)
+  where
+    least : (w v : ℕ) (s r : Bool) →
+        word_of_state (state.Direct w false s) ≡ word_of_state (state.Direct v false r) →
+        v < last_version → w < last_version
+    least w v true true e low = omega arith
+    least w v true false e low = omega arith
+    least w v false true e low = omega arith
+    least w v false false e low = omega arith
+unlocked_by_word (Locked c w true x y) v true filled low e = absurd (omega arith)
+unlocked_by_word (Locked c w true x y) v false filled low e = absurd (omega arith)
+unlocked_by_word (Locked c w false x y) v true filled low e = absurd (omega arith)
+unlocked_by_word (Locked c w false x y) v false filled low e = absurd (omega arith)
+unlocked_by_word (Copied w true x) v true filled low e = absurd (omega arith)
+unlocked_by_word (Copied w true x) v false filled low e = absurd (omega arith)
+unlocked_by_word (Copied w false x) v true filled low e = absurd (omega arith)
+unlocked_by_word (Copied w false x) v false filled low e = absurd (omega arith)
+unlocked_by_word (Redirect p y) v true filled low e = absurd (omega arith)
+unlocked_by_word (Redirect p y) v false filled low e = absurd (omega arith)
+unlocked_by_word Moved v true filled low e = absurd (omega arith)
+unlocked_by_word Moved v false filled low e = absurd (omega arith)
+
+-- ---- conditions, whatever others did ----
+
+-- what can be seen has a key
+seen_keyed : (o : Opening) (c p : ℕ) (t : Execution) → Valid o t → CanSee o c p t → HasKey o p t
+seen_keyed o c p t valid can =
+    ⊎_elim (λ (at : IsAt o c p t). at_keyed o c p t valid at)
+    (λ (z : IsKeeper o c × HasKey o p t). z.1) can
+
+-- and is a place of the table
+pub seen_place : (o : Opening) (c p : ℕ) (t : Execution) → Valid o t → CanSee o c p t →
+    IsPlace (limits o) p
+seen_place o c p t valid can = keyed_place o t valid p (seen_keyed o c p t valid can)
+
+seen_on : (o : Opening) (c p : ℕ) (n t : Execution) → Valid o (n ++ t) → Without c n →
+    CanSee o c p t → CanSee o c p (n ++ t)
+seen_on o c p n t valid out can =
+    ⊎_elim (λ (at : IsAt o c p t). inl (at_on o c p n t valid (stays_inside c n out) at))
+    (λ (z : IsKeeper o c × HasKey o p t).
+    inr (z.0, (z.1.0, ap role_key (keyed_on o c p n t z.0 valid out z.1) ∙ z.1.1))) can
+
+look : (o : Opening) (c p : ℕ) (t : Execution) → CanSee o c p t → MayLookAt o c p t
+look o c p t can =
+    ⊎_elim (λ (at : IsAt o c p t). inl at) (λ (z : IsKeeper o c × HasKey o p t). inr z.0) can
+
+-- a redirect is met in an array alone
+follows : (o : Opening) (c p to : ℕ) (t : Execution) → Valid o t → IsCaller o c → CanSee o c p t →
+    state_word (form o p t) ≡ word_of_state (state.Redirect to) →
+    IsReading o c t × IsInArrayOf o c p t
+follows o c p to t valid caller can e =
+    ⊎_elim
+    (λ (at : IsAt o c p t).
+    (at.reading, ⊎_elim (λ (z : IsInArrayOf o c p t). z)
+    (λ (z : reached c p t ≡ true).
+    let f = forwards_by_word (form o p t) to e in
+    absurd ((reached_forms o t valid c p caller z).0 f.0 f.1 f.2)) at.there))
+    (λ (z : IsKeeper o c × HasKey o p t). absurd (let keeper = z.0 in omega arith)) can
+
+may_load_state : (o : Opening) (c p : ℕ) (t : Execution) → Valid o t → CanSee o c p t →
+    MayLoadState o c p (word o t (PlaceWord p State)) t
+may_load_state o c p t valid can =
+    let says = sym ((represented o t valid).states p (seen_keyed o c p t valid can)) in
+    record {
+      allowed = look o c p t can;
+      found_word = refl;
+      says = says;
+      follows = λ caller to e. follows o c p to t valid caller can (says ∙ e);
+    }
+
+may_load_value : (o : Opening) (c p : ℕ) (t : Execution) → Valid o t → CanSee o c p t →
+    MayLoadValue o c p (word o t (PlaceWord p Value)) t
+may_load_value o c p t valid can =
+    record {
+      allowed = look o c p t can;
+      found_word = refl;
+      says = (represented o t valid).values p (seen_keyed o c p t valid can);
+    }
+
+may_lock : (o : Opening) (c p expected : ℕ) (t : Execution) → Valid o t → IsAt o c p t →
+    HoldsNoLock o c t → IsLockable expected → word o t (PlaceWord p State) ≡ expected →
+    MayLock o c p expected t
+may_lock o c p expected t valid at none can hit =
+    let keyed = at_keyed o c p t valid at in
+    let says = sym ((represented o t valid).states p keyed) ∙ hit in
+    let f = unlocked_by_word (form o p t) can.0 can.1 (not_blank o t valid p keyed.0 keyed.1)
+    can.2.raisable (says ∙ can.2.is) in
+    record {
+      reading = at.reading;
+      there = at;
+      keyed = keyed;
+      holds_none = none;
+      version = f.0;
+      removed = f.1;
+      value = f.2;
+      unlocked = f.3;
+      raisable = f.4;
+      found_word = says;
+    }
+
+may_fail_lock : (o : Opening) (c p expected : ℕ) (t : Execution) → Valid o t → IsAt o c p t →
+    expected ≢ word o t (PlaceWord p State) →
+    MayFailLock o c p expected (word o t (PlaceWord p State)) t
+may_fail_lock o c p expected t valid at ne =
+    record {
+      allowed = inl at;
+      found_word = refl;
+      says = sym ((represented o t valid).states p (at_keyed o c p t valid at));
+      differs = ne;
+    }
+
+-- ---- the steps ----
+
+module _ (o : Opening) (slots id : ℕ) (me : Me (Unit {0}) View) (c : ℕ)
+    (is : me.0.numbers ≡ c ∷ []) (live : me.0.opening ≡ Some o) where
+  -- what others left of what the hand knows
+  seen_now : (t newer : Execution) (p : ℕ) → Valid o t → newer ++ me.0.known ≡ t →
+      Without c newer → CanSee o c p me.0.known → CanSee o c p t
+  seen_now t newer p valid e out can =
+      subst (CanSee o c p) e (seen_on o c p newer me.0.known (subst (Valid o) (sym e) valid) out can)
+
+  at_now : (t newer : Execution) (p : ℕ) → Valid o t → newer ++ me.0.known ≡ t →
+      Without c newer → IsAt o c p me.0.known → IsAt o c p t
+  at_now t newer p valid e out at =
+      subst (IsAt o c p) e
+      (at_on o c p newer me.0.known (subst (Valid o) (sym e) valid) (stays_inside c newer out) at)
+
+  locked_now : (t newer : Execution) (p : ℕ) → Valid o t → newer ++ me.0.known ≡ t →
+      Without c newer → IsAt o c p me.0.known → (v x y : ℕ) (r : Bool) →
+      form o p me.0.known ≡ Locked c v r x y → form o p t ≡ Locked c v r x y
+  locked_now t newer p valid e out at v x y r f =
+      ap (form o p) (sym e)
+      ∙ locked_on o c p newer me.0.known (subst (Valid o) (sym e) valid) out at v x y r f
+
+  pub loads_state : (p a : ℕ) → CanSee o c p me.0.known → IsPlace (limits o) p →
+      a ≡ address_of (limits o) (PlaceWord p State) →
+      Allows (Kept o) slots id me a (λ n. n) (λ n x. Does me (state_load (word_in me.0 a) n) x)
+  loads_state p a can is_place at =
+      by_name o slots id me c is live (PlaceWord p State) a (λ n. n) state_load is_place at
+      (loads o slots id me c is live (PlaceWord p State) (λ n. LoadState p n) is_place (λ _. refl)
+      (λ t valid newer e out. may_load_state o c p t valid (seen_now t newer p valid e out can)))
+
+  pub loads_value : (p a : ℕ) → CanSee o c p me.0.known → IsPlace (limits o) p →
+      a ≡ address_of (limits o) (PlaceWord p Value) →
+      Allows (Kept o) slots id me a (λ n. n) (λ n x. Does me (value_load (word_in me.0 a) n) x)
+  loads_value p a can is_place at =
+      by_name o slots id me c is live (PlaceWord p Value) a (λ n. n) value_load is_place at
+      (loads o slots id me c is live (PlaceWord p Value) (λ n. LoadValue p n) is_place (λ _. refl)
+      (λ t valid newer e out. may_load_value o c p t valid (seen_now t newer p valid e out can)))
+
+  pub locks : (p a x : ℕ) → IsAt o c p me.0.known → HoldsNoLock o c me.0.known → IsLockable x →
+      IsPlace (limits o) p → a ≡ address_of (limits o) (PlaceWord p State) →
+      Allows (Kept o) slots id me a (λ n. either (n == x) (x + 4) n)
+      (λ n w. Does me (cond (n == x) (lock_made (word_in me.0 a) x)
+      (lock_failed (word_in me.0 a) x n)) w)
+  locks p a x at none can is_place here =
+      by_name o slots id me c is live (PlaceWord p State) a (λ n. either (n == x) (x + 4) n)
+      (λ w n. cond (n == x) (lock_made w x) (lock_failed w x n)) is_place here
+      (exchanges o slots id me c is live (PlaceWord p State) x (x + 4) (Lock p x)
+      (λ n. FailLock p x n) is_place refl (λ _. refl)
+      (λ t valid newer e out. let now = at_now t newer p valid e out at in (
+        (λ hit. may_lock o c p x t valid now
+            (subst (HoldsNoLock o c) e (holds_no_lock_on o c newer me.0.known out none)) can hit),
+        (λ ne. may_fail_lock o c p x t valid now ne),
+      )))
+
+  pub stores_value : (p a y : ℕ) → IsAt o c p me.0.known → IsLockedBy c (form o p me.0.known) →
+      IsPlace (limits o) p → a ≡ address_of (limits o) (PlaceWord p Value) →
+      Allows (Kept o) slots id me a (λ _. y)
+      (λ _ x. Does me (value_store (word_in me.0 a) y) x)
+  stores_value p a y at held is_place here =
+      by_name o slots id me c is live (PlaceWord p Value) a (λ _. y) (λ w _. value_store w y)
+      is_place here
+      (stores o slots id me c is live (PlaceWord p Value) y (StoreValue p y) is_place refl
+      (λ t valid newer e out. let now = at_now t newer p valid e out at in (
+        at.reading.caller,
+        (held.0, held.1, held.2, held.3,
+            locked_now t newer p valid e out at held.0 held.2 held.3 held.1 held.4),
+        at_keyed o c p t valid now,
+      )))
