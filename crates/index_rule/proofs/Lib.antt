@@ -10,3 +10,4 @@ pub mod Stepping
 mod Standing
 mod LockWords
 mod RecordSteps
+mod RootSteps

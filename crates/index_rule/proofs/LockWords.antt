@@ -4,7 +4,7 @@ use Rattle.std.proofs.Common.{◌++◌, sym, ap, ◌∙◌, subst, arith}
 use Rattle.std.specs.Prelude.{◌==◌}
 use mathlib.Core.Logic.{dite}
 use native.Mathlib.Decide.{ℕ_discrete}
-use Rattle.word_layout.specs.State.{word_of_state}
+use Rattle.word_layout.specs.State.{IsLockable, IsUnlockedWord, word_of_state}
 use Rattle.word_layout.specs.declared.state.State.TheVariants as state
 use Rattle.index_machine.specs.declared.events.Action.{Action}
 use Rattle.index_machine.specs.declared.events.Action.TheVariants.{Close, Copy, LinkRow, Lock}

@@ -1,39 +1,46 @@
 -- The steps on a record meet their conditions.
 use Rattle.std.proofs.Common.{◌≡◌, ◌≢◌, ℕ, ◌+◌, ◌<◌, ◌==◌, inl, inr, ⊎_elim, Bool, true}
-use Rattle.std.proofs.Common.{false, cond, Some, [], ◌∷◌, ◌++◌, refl, sym, ap, ◌∙◌, subst, arith}
+use Rattle.std.proofs.Common.{false, cond, Some, [], ◌∷◌, ◌++◌, refl, sym, ap, ◌∙◌, subst, arith, eq-eqb, ne_eqb, ◌%◌}
 use prog.Atomic.{either}
 use Rattle.atomic_table.specs.Table.{Me, Allows}
 use Rattle.word_layout.specs.declared.places.Part.TheVariants.{State, Value}
 use Rattle.word_layout.specs.declared.state.State.TheVariants as state
-use Rattle.word_layout.specs.State.{word_of_state}
+use Rattle.word_layout.specs.State.{IsLockable, IsUnlockedWord, word_of_state}
 use Rattle.word_layout.specs.Places.{IsPlace}
 use Rattle.word_layout.specs.Words.{PlaceWord, address_of}
 use Rattle.index_machine.specs.declared.events.Action.TheVariants.{LoadState, LoadValue, Lock}
-use Rattle.index_machine.specs.declared.events.Action.TheVariants.{FailLock, StoreValue}
+use Rattle.index_machine.specs.declared.events.Action.TheVariants.{FailLock, StoreValue, Unlock}
+use Rattle.index_machine.specs.declared.events.Action.{Action}
+use Rattle.map_model.specs.Map.{key_of}
 use Rattle.index_machine.specs.declared.opening.Opening.{Opening}
 use Rattle.index_machine.specs.Execution.{Execution, Without}
 use Rattle.index_machine.specs.Words.{limits, word}
 use Rattle.index_machine.specs.Sections.{IsCaller, IsKeeper, IsReading}
-use Rattle.index_machine.specs.Rows.{role_key}
+use Rattle.index_machine.specs.Rows.{role, role_key}
 use Rattle.index_machine.specs.Forms.{Form, Blank, Unlocked, Locked, Copied, Redirect, Moved}
-use Rattle.index_machine.specs.Forms.{IsLockedBy, last_version, state_word}
+use Rattle.index_machine.specs.Forms.{IsLockedBy, is_removed, last_version, state_word}
+use Rattle.index_machine.specs.Forms.{without_lock}
 use Rattle.index_machine.specs.Places.{form}
 use Rattle.index_machine.specs.Reaching.{reached}
 use Rattle.index_machine.specs.RecordConditions.{HasKey, HoldsNoLock, IsAt, IsInArrayOf, MayLookAt}
 use Rattle.index_machine.specs.RecordConditions.{MayFailLock, MayLoadState, MayLoadValue, MayLock}
+use Rattle.index_machine.specs.RecordConditions.{Makes, MayUnlock}
 use Rattle.index_machine.specs.Conditions.{Valid}
+use Rattle.index_machine.proofs.Executions.{valid_before}
 use Rattle.index_machine.proofs.Holders.{holds_no_lock_on}
 use Rattle.index_machine.proofs.RepresentingAll.{represented}
 use Rattle.machine_readers.proofs.FormsMet.{not_blank, reached_forms}
 use Rattle.index_rule.specs.declared.view.View.{View}
-use Rattle.index_rule.specs.LockWords.{IsLockable}
-use Rattle.index_rule.specs.Records.{CanSee}
-use Rattle.index_rule.specs.Rule.{Kept, Does, word_in}
+use Rattle.index_rule.specs.Records.{CanSee, MayRelease, change_by, or_zero, unlocked_word}
+use Rattle.index_rule.specs.Records.{value_of}
+use Rattle.index_rule.specs.Rule.{Kept, Does, first_of, word_in}
+use Rattle.index_rule.specs.Steps.{says_removed, unlock_known, unlock_store}
 use Rattle.index_rule.specs.Steps.{lock_failed, lock_made, state_load, value_load}
 use Rattle.index_rule.specs.Steps.{value_store}
 use Rattle.index_rule.proofs.LockWords.{locked_on}
-use Rattle.index_rule.proofs.StepKinds.{by_name, exchanges, loads, stores}
-use Rattle.index_rule.proofs.Standing.{at_keyed, at_on, keyed_on, keyed_place, stays_inside}
+use Rattle.index_rule.proofs.StepKinds.{Tells, by_name, exchanges, loads, stores}
+use Rattle.index_rule.proofs.Standing.{at_keyed, at_on, at_role, keyed_on, keyed_place}
+use Rattle.index_rule.proofs.Standing.{stays_inside}
 
 -- ---- what a state word says of the form ----
 
@@ -171,6 +178,47 @@ may_fail_lock o c p expected t valid at ne =
       differs = ne;
     }
 
+-- ---- unlocking ----
+
+-- the unlocked word says whether the record is removed
+says_unlocked : (f : Form) (c : ℕ) (removed : Bool) (word : ℕ) → IsLockedBy c f →
+    word ≡ state_word (without_lock removed f) → says_removed word ≡ removed
+says_unlocked f c removed word held e =
+    says removed word held.0 (e ∙ ap (λ (z : Form). state_word (without_lock removed z)) held.4)
+  where
+    says : (r : Bool) (n v : ℕ) → n ≡ word_of_state (state.Direct (v + 1) false r) →
+        says_removed n ≡ r
+    says true n v is = eq-eqb (n % 16) 8 (omega arith)
+    says false n v is = ne_eqb (n % 16) 8 (omega arith)
+
+-- what the hand may change by its unlock
+may_unlock : (o : Opening) (c p : ℕ) (removed : Bool) (u t : Execution)
+    (held : IsLockedBy c (form o p u)) → is_removed (form o p u) ≡ false →
+    form o p t ≡ Locked c held.0 held.1 held.2 held.3 → HasKey o p u → role o p t ≡ role o p u →
+    MayUnlock o t c p removed (change_by o c p removed u)
+may_unlock o c p removed u t held live now keyed same =
+    record {
+      version = held.0;
+      was = held.1;
+      before = held.2;
+      value = held.3;
+      holds = now;
+      keyed = ap role_key same ∙ (keyed.1 ∙ ap (λ (z : ℕ). Some z) (key removed));
+      makes = makes removed;
+      revives = λ gone. let bad : true ≡ false = sym gone ∙ was_live in cc;
+    }
+  where
+    was_live : held.1 ≡ false
+    was_live = sym (ap is_removed held.4) ∙ live
+
+    key : (r : Bool) → keyed.0 ≡ key_of (change_by o c p r u)
+    key true = sym (ap or_zero keyed.1)
+    key false = sym (ap or_zero keyed.1)
+
+    makes : (r : Bool) → Makes c held.1 r held.3 (change_by o c p r u)
+    makes true = (refl, refl, was_live)
+    makes false = (refl, refl, ap value_of held.4)
+
 -- ---- the steps ----
 
 module _ (o : Opening) (slots id : ℕ) (me : Me (Unit {0}) View) (c : ℕ)
@@ -240,3 +288,40 @@ module _ (o : Opening) (slots id : ℕ) (me : Me (Unit {0}) View) (c : ℕ)
             locked_now t newer p valid e out at held.0 held.2 held.3 held.1 held.4),
         at_keyed o c p t valid now,
       )))
+
+  -- ---- unlocking ----
+
+  -- the action by which the store is told
+  unlock_is : (p word : ℕ) (removed : Bool) → says_removed word ≡ removed →
+      unlock_store me.0 (PlaceWord p State) word
+      ≡ Unlock p removed (change_by o c p removed me.0.known) word
+  unlock_is p word removed says =
+      ap (λ z. unlock_known z me.0 p word) live
+      ∙ ap (λ (z : ℕ × Bool). Unlock p z.1 (change_by o z.0 p z.1 me.0.known) word)
+      (λ i. (ap first_of is i, says i))
+
+  pub unlocks : (p a word : ℕ) (removed : Bool) → MayRelease o c p removed me.0.known →
+      word ≡ unlocked_word o p removed me.0.known → IsPlace (limits o) p →
+      a ≡ address_of (limits o) (PlaceWord p State) →
+      Allows (Kept o) slots id me a (λ _. word)
+      (λ _ x. Does me (unlock_store me.0 (word_in me.0 a) word) x)
+  unlocks p a word removed may stored is_place here =
+      let at = may.holds.there in
+      let says = says_unlocked (form o p me.0.known) c removed word may.holds.locked stored in
+      by_name o slots id me c is live (PlaceWord p State) a (λ _. word)
+      (λ w _. unlock_store me.0 w word) is_place here
+      (subst (λ (d : Action). Tells o slots id me c is live (PlaceWord p State) (λ _. word) (λ _. d))
+      (sym (unlock_is p word removed says))
+      (stores o slots id me c is live (PlaceWord p State) word
+      (Unlock p removed (change_by o c p removed me.0.known) word) is_place refl
+      (λ t valid newer e out.
+      let before : Valid o (newer ++ me.0.known) = subst (Valid o) (sym e) valid in
+      let held = may.holds.locked in
+      let now = locked_now t newer p valid e out at held.0 held.2 held.3 held.1 held.4 in (
+        at.reading.caller,
+        may_unlock o c p removed me.0.known t held may.live now
+            (at_keyed o c p me.0.known (valid_before o newer me.0.known before) at)
+            (ap (role o p) (sym e)
+            ∙ at_role o c p newer me.0.known before (stays_inside c newer out) at),
+        stored ∙ ap (λ (z : Form). state_word (without_lock removed z)) (held.4 ∙ sym now),
+      ))))

@@ -1,22 +1,12 @@
 -- The state word that a caller locked, which it keeps until it unlocks the place.
-use Rattle.std.specs.Prelude.{◌≡◌, ℕ, ◌<◌, Bool, false}
-use Rattle.word_layout.specs.State.{word_of_state}
-use Rattle.word_layout.specs.declared.state.State.TheVariants.{Direct}
+use Rattle.std.specs.Prelude.{◌≡◌, ℕ, Bool}
+use Rattle.word_layout.specs.State.{IsUnlockedWord}
 use Rattle.index_machine.specs.declared.events.Action.{Action}
 use Rattle.index_machine.specs.declared.events.Action.TheVariants.{Lock}
 use Rattle.index_machine.specs.declared.opening.Opening.{Opening}
 use Rattle.index_machine.specs.Execution.{Execution}
-use Rattle.index_machine.specs.Forms.{Locked, last_version}
+use Rattle.index_machine.specs.Forms.{Locked}
 use Rattle.index_machine.specs.Places.{form}
-
--- the word is that of an unlocked record with this version, which can still be raised
-pub record IsUnlockedWord (version : ℕ) (removed : Bool) (word : ℕ) : Type 0 where
-  pub is : word ≡ word_of_state (Direct version false removed)
-  pub raisable : version < last_version
-
--- the word is that of an unlocked record whose version can still be raised
-abbrev pub IsLockable : ℕ → Type 0
-IsLockable word = (version : ℕ) × (removed : Bool) × IsUnlockedWord version removed word
 
 -- the word is the one that the hand locked, wherever it holds a version lock
 abbrev pub IsLockedWord : Opening → ℕ → ℕ → Execution → Type 0

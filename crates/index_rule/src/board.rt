@@ -11,6 +11,8 @@ mod epochs;
 mod free_stack;
 mod laying;
 mod opening;
+mod records;
+mod root;
 
 /// The shared words of one index. Each call that is given a hand is one atomic step, and keeps
 /// the rule.
