@@ -1,20 +1,26 @@
 -- The steps on a record meet their conditions.
 use Rattle.std.proofs.Common.{◌≡◌, ◌≢◌, ℕ, ◌+◌, ◌<◌, ◌==◌, inl, inr, ⊎_elim, Bool, true}
-use Rattle.std.proofs.Common.{false, cond, Some, [], ◌∷◌, ◌++◌, refl, sym, ap, ◌∙◌, subst, arith, eq-eqb, ne_eqb, ◌%◌}
+use Rattle.std.proofs.Common.{false, cond, Some, [], ◌∷◌, ◌++◌, refl, sym, ap, ◌∙◌, subst, arith, eq-eqb, ne_eqb, ◌%◌, ◌^◌}
 use prog.Atomic.{either}
+use Rattle.std.proofs.Math.Logic.{∥∥₁_elim}
+use Rattle.std.proofs.Props.{props}
+use Rattle.std.proofs.lemmas.Grind.{merely}
 use Rattle.atomic_table.specs.Table.{Me, Allows}
-use Rattle.word_layout.specs.declared.places.Part.TheVariants.{State, Value}
+use Rattle.word_layout.specs.declared.places.Part.TheVariants.{Key, State, Value}
 use Rattle.word_layout.specs.declared.state.State.TheVariants as state
 use Rattle.word_layout.specs.State.{IsLockable, IsUnlockedWord, word_of_state}
 use Rattle.word_layout.specs.Places.{IsPlace}
-use Rattle.word_layout.specs.Words.{PlaceWord, address_of}
+use Rattle.word_layout.specs.Words.{IsWord, PlaceWord, Word, address_of}
+use Rattle.word_layout.specs.Limits.{word_count}
+use Rattle.word_layout.specs.declared.limits.Limits.{Limits}
+use Rattle.word_layout.proofs.WordNames.{address_of-within, stand_apart}
 use Rattle.index_machine.specs.declared.events.Action.TheVariants.{LoadState, LoadValue, Lock}
 use Rattle.index_machine.specs.declared.events.Action.TheVariants.{FailLock, StoreValue, Unlock}
 use Rattle.index_machine.specs.declared.events.Action.{Action}
 use Rattle.map_model.specs.Map.{key_of}
 use Rattle.index_machine.specs.declared.opening.Opening.{Opening}
 use Rattle.index_machine.specs.Execution.{Execution, Without}
-use Rattle.index_machine.specs.Words.{limits, word}
+use Rattle.index_machine.specs.Words.{limits, store, word}
 use Rattle.index_machine.specs.Sections.{IsCaller, IsKeeper, IsReading}
 use Rattle.index_machine.specs.Rows.{role, role_key}
 use Rattle.index_machine.specs.Forms.{Form, Blank, Unlocked, Locked, Copied, Redirect, Moved}
@@ -30,7 +36,10 @@ use Rattle.index_machine.proofs.Executions.{valid_before}
 use Rattle.index_machine.proofs.Holders.{holds_no_lock_on}
 use Rattle.index_machine.proofs.RepresentingAll.{represented}
 use Rattle.machine_readers.proofs.FormsMet.{not_blank, reached_forms}
+use Rattle.index_rule.specs.declared.board.Board.{Board}
+use Rattle.index_rule.specs.declared.hand.Hand.{Hand}
 use Rattle.index_rule.specs.declared.view.View.{View}
+use Rattle.index_rule.specs.Hands.{IsHandOf, known, opening_of}
 use Rattle.index_rule.specs.Records.{CanSee, MayRelease, change_by, or_zero, unlocked_word}
 use Rattle.index_rule.specs.Records.{value_of}
 use Rattle.index_rule.specs.Rule.{Kept, Does, first_of, word_in}
@@ -178,10 +187,46 @@ may_fail_lock o c p expected t valid at ne =
       differs = ne;
     }
 
+-- ---- the words of a place ----
+
+-- the place that a word is of, from 1 on, or 0
+abbrev place_number : Word → ℕ
+place_number (PlaceWord p part) = p + 1
+place_number _ = 0
+
+-- a place of the table is one however this is known
+place_named : (l : Limits) (p : ℕ) → ∥ IsPlace l p ∥₁ → (w : Word) → IsWord l w →
+    address_of l w ≡ p → IsPlace l p
+place_named l p some w is at = go w is (∥∥₁_elim some (hlevel props) (λ there.
+    ap place_number ((stand_apart l).apart w (PlaceWord p Key) is there (at ∙ omega arith))))
+  where
+    go : (w : Word) → IsWord l w → place_number w ≡ p + 1 → IsPlace l p
+    go (PlaceWord q part) is e = subst (IsPlace l) (omega arith) is
+    go _ is e = absurd (omega arith)
+
+-- a place that the hand can see is one of the table
+pub seen_by_hand : (b : Board) (h : Hand) (p : ℕ) → IsHandOf b h →
+    CanSee (opening_of b) h.number p (known h) → IsPlace (limits (opening_of b)) p
+seen_by_hand b h p of can =
+    let l = limits (opening_of b) in
+    let some : ∥ IsPlace l p ∥₁ = ∥∥₁_elim (h.following (opening_of b) of.opened) (hlevel props)
+    (λ follows. merely (seen_place (opening_of b) h.number p (known h) follows.valid can)) in
+    let below : p < word_count l = ∥∥₁_elim some (hlevel props)
+    (λ there. let z = address_of-within l (PlaceWord p Key) there in omega arith) in
+    let w = (stand_apart l).named p below in
+    place_named l p some w.0 w.1 w.2
+
+-- and small enough for the addresses of its words
+pub place_below : (o : Opening) (p : ℕ) → IsPlace (limits o) p → p < 2 ^ 28
+place_below o p there =
+    let z = address_of-within (limits o) (PlaceWord p Key) there in
+    let most = o.layout.kept.most_words in
+    omega arith
+
 -- ---- unlocking ----
 
 -- the unlocked word says whether the record is removed
-says_unlocked : (f : Form) (c : ℕ) (removed : Bool) (word : ℕ) → IsLockedBy c f →
+pub says_unlocked : (f : Form) (c : ℕ) (removed : Bool) (word : ℕ) → IsLockedBy c f →
     word ≡ state_word (without_lock removed f) → says_removed word ≡ removed
 says_unlocked f c removed word held e =
     says removed word held.0 (e ∙ ap (λ (z : Form). state_word (without_lock removed z)) held.4)
@@ -219,6 +264,16 @@ may_unlock o c p removed u t held live now keyed same =
     makes true = (refl, refl, was_live)
     makes false = (refl, refl, ap value_of held.4)
 
+-- the action by which the store of an unlocked word is told
+pub unlock_is : (o : Opening) (v : View) (c p word : ℕ) (removed : Bool) → v.numbers ≡ c ∷ [] →
+    v.opening ≡ Some o → says_removed word ≡ removed →
+    unlock_store v (PlaceWord p State) word
+    ≡ Unlock p removed (change_by o c p removed v.known) word
+unlock_is o v c p word removed is live says =
+    ap (λ z. unlock_known z v p word) live
+    ∙ ap (λ (z : ℕ × Bool). Unlock p z.1 (change_by o z.0 p z.1 v.known) word)
+    (λ i. (ap first_of is i, says i))
+
 -- ---- the steps ----
 
 module _ (o : Opening) (slots id : ℕ) (me : Me (Unit {0}) View) (c : ℕ)
@@ -247,7 +302,8 @@ module _ (o : Opening) (slots id : ℕ) (me : Me (Unit {0}) View) (c : ℕ)
       Allows (Kept o) slots id me a (λ n. n) (λ n x. Does me (state_load (word_in me.0 a) n) x)
   loads_state p a can is_place at =
       by_name o slots id me c is live (PlaceWord p State) a (λ n. n) state_load is_place at
-      (loads o slots id me c is live (PlaceWord p State) (λ n. LoadState p n) is_place (λ _. refl)
+      (loads o slots id me c is live (PlaceWord p State) (λ n. LoadState p n) is_place (λ _. tt)
+      (λ _. refl)
       (λ t valid newer e out. may_load_state o c p t valid (seen_now t newer p valid e out can)))
 
   pub loads_value : (p a : ℕ) → CanSee o c p me.0.known → IsPlace (limits o) p →
@@ -255,19 +311,21 @@ module _ (o : Opening) (slots id : ℕ) (me : Me (Unit {0}) View) (c : ℕ)
       Allows (Kept o) slots id me a (λ n. n) (λ n x. Does me (value_load (word_in me.0 a) n) x)
   loads_value p a can is_place at =
       by_name o slots id me c is live (PlaceWord p Value) a (λ n. n) value_load is_place at
-      (loads o slots id me c is live (PlaceWord p Value) (λ n. LoadValue p n) is_place (λ _. refl)
+      (loads o slots id me c is live (PlaceWord p Value) (λ n. LoadValue p n) is_place (λ _. tt)
+      (λ _. refl)
       (λ t valid newer e out. may_load_value o c p t valid (seen_now t newer p valid e out can)))
 
-  pub locks : (p a x : ℕ) → IsAt o c p me.0.known → HoldsNoLock o c me.0.known → IsLockable x →
+  pub locks : (p a x y : ℕ) → y ≡ x + 4 → IsAt o c p me.0.known → HoldsNoLock o c me.0.known → IsLockable x →
       IsPlace (limits o) p → a ≡ address_of (limits o) (PlaceWord p State) →
-      Allows (Kept o) slots id me a (λ n. either (n == x) (x + 4) n)
+      Allows (Kept o) slots id me a (λ n. either (n == x) y n)
       (λ n w. Does me (cond (n == x) (lock_made (word_in me.0 a) x)
       (lock_failed (word_in me.0 a) x n)) w)
-  locks p a x at none can is_place here =
-      by_name o slots id me c is live (PlaceWord p State) a (λ n. either (n == x) (x + 4) n)
+  locks p a x y locked at none can is_place here =
+      by_name o slots id me c is live (PlaceWord p State) a (λ n. either (n == x) y n)
       (λ w n. cond (n == x) (lock_made w x) (lock_failed w x n)) is_place here
-      (exchanges o slots id me c is live (PlaceWord p State) x (x + 4) (Lock p x)
-      (λ n. FailLock p x n) is_place refl (λ _. refl)
+      (exchanges o slots id me c is live (PlaceWord p State) x y (Lock p x)
+      (λ n. FailLock p x n) is_place tt (λ _. tt)
+      (ap (λ (z : ℕ). Some (store (PlaceWord p State) z)) (sym locked)) (λ _. refl)
       (λ t valid newer e out. let now = at_now t newer p valid e out at in (
         (λ hit. may_lock o c p x t valid now
             (subst (HoldsNoLock o c) e (holds_no_lock_on o c newer me.0.known out none)) can hit),
@@ -281,7 +339,7 @@ module _ (o : Opening) (slots id : ℕ) (me : Me (Unit {0}) View) (c : ℕ)
   stores_value p a y at held is_place here =
       by_name o slots id me c is live (PlaceWord p Value) a (λ _. y) (λ w _. value_store w y)
       is_place here
-      (stores o slots id me c is live (PlaceWord p Value) y (StoreValue p y) is_place refl
+      (stores o slots id me c is live (PlaceWord p Value) y (StoreValue p y) is_place tt refl
       (λ t valid newer e out. let now = at_now t newer p valid e out at in (
         at.reading.caller,
         (held.0, held.1, held.2, held.3,
@@ -290,15 +348,6 @@ module _ (o : Opening) (slots id : ℕ) (me : Me (Unit {0}) View) (c : ℕ)
       )))
 
   -- ---- unlocking ----
-
-  -- the action by which the store is told
-  unlock_is : (p word : ℕ) (removed : Bool) → says_removed word ≡ removed →
-      unlock_store me.0 (PlaceWord p State) word
-      ≡ Unlock p removed (change_by o c p removed me.0.known) word
-  unlock_is p word removed says =
-      ap (λ z. unlock_known z me.0 p word) live
-      ∙ ap (λ (z : ℕ × Bool). Unlock p z.1 (change_by o z.0 p z.1 me.0.known) word)
-      (λ i. (ap first_of is i, says i))
 
   pub unlocks : (p a word : ℕ) (removed : Bool) → MayRelease o c p removed me.0.known →
       word ≡ unlocked_word o p removed me.0.known → IsPlace (limits o) p →
@@ -311,9 +360,9 @@ module _ (o : Opening) (slots id : ℕ) (me : Me (Unit {0}) View) (c : ℕ)
       by_name o slots id me c is live (PlaceWord p State) a (λ _. word)
       (λ w _. unlock_store me.0 w word) is_place here
       (subst (λ (d : Action). Tells o slots id me c is live (PlaceWord p State) (λ _. word) (λ _. d))
-      (sym (unlock_is p word removed says))
+      (sym (unlock_is o me.0 c p word removed is live says))
       (stores o slots id me c is live (PlaceWord p State) word
-      (Unlock p removed (change_by o c p removed me.0.known) word) is_place refl
+      (Unlock p removed (change_by o c p removed me.0.known) word) is_place tt refl
       (λ t valid newer e out.
       let before : Valid o (newer ++ me.0.known) = subst (Valid o) (sym e) valid in
       let held = may.holds.locked in
@@ -325,3 +374,35 @@ module _ (o : Opening) (slots id : ℕ) (me : Me (Unit {0}) View) (c : ℕ)
             ∙ at_role o c p newer me.0.known before (stays_inside c newer out) at),
         stored ∙ ap (λ (z : Form). state_word (without_lock removed z)) (held.4 ∙ sym now),
       ))))
+
+-- ---- what a step told its hand ----
+
+-- the exchange that took the lock
+pub lock_taken : (m x : Me (Unit {0}) View) (u : Word) (p n e : ℕ) → u ≡ PlaceWord p State →
+    n ≡ e → Does m (cond (n == e) (lock_made u e) (lock_failed u e n)) x → Does m (Lock p e) x
+lock_taken m x u p n e named hit does =
+    subst (λ (d : Action). Does m d x)
+    (ap (λ (z : Bool). cond z (lock_made u e) (lock_failed u e n)) (eq-eqb n e hit)
+    ∙ ap (λ (z : Word). lock_made z e) named) does
+
+-- and the one that found another word
+pub lock_lost : (m x : Me (Unit {0}) View) (u : Word) (p n e : ℕ) → u ≡ PlaceWord p State →
+    n ≢ e → Does m (cond (n == e) (lock_made u e) (lock_failed u e n)) x →
+    Does m (FailLock p e n) x
+lock_lost m x u p n e named differ does =
+    subst (λ (d : Action). Does m d x)
+    (ap (λ (z : Bool). cond z (lock_made u e) (lock_failed u e n)) (ne_eqb n e differ)
+    ∙ ap (λ (z : Word). lock_failed z e n) named) does
+
+-- the word that releases a lock is the one of the next version
+pub released_is : (b : Board) (h : Hand) (p word : ℕ) (removed : Bool) → IsHandOf b h →
+    MayRelease (opening_of b) h.number p removed (known h) →
+    ((version : ℕ) (was : Bool) → IsUnlockedWord version was h.locked →
+    word ≡ word_of_state (state.Direct (version + 1) false removed)) →
+    word ≡ unlocked_word (opening_of b) p removed (known h)
+released_is b h p word removed of may is =
+    let held = may.holds.locked in
+    is held.0 held.1
+    (h.locks.kept (opening_of b) of.opened may.holds.there.reading.caller p held.0 held.1 held.2
+    held.3 held.4)
+    ∙ ap (λ (z : Form). state_word (without_lock removed z)) (sym held.4)

@@ -4,6 +4,8 @@
 use Rattle.std.proofs.Common.{◌≡◌, ℕ, ◌+◌, ◌*◌, ◌<◌, ◌≤◌, ◌⊎◌, inl, inr, ⊎_elim, Bool, true, false}
 use Rattle.std.proofs.Common.{cond, Option, Some, None, [], ◌∷◌, ◌++◌, refl, sym, ap, ◌∙◌, subst, arith}
 use Rattle.std.specs.Prelude.{◌==◌}
+use Rattle.std.proofs.Math.Logic.{∥∥₁_elim}
+use Rattle.std.proofs.Props.{props}
 use Rattle.atomic_table.specs.Table.{Me, Allows}
 use Rattle.word_layout.specs.Words.{IsWord, Root, SlotGroup, address_of}
 use Rattle.index_machine.specs.declared.events.Action.{Action}
@@ -19,7 +21,10 @@ use Rattle.index_machine.specs.RebuildConditions.{MayReadSlot}
 use Rattle.index_machine.specs.Conditions.{Allowed, Valid}
 use Rattle.index_machine.proofs.Executions.{ChangesOwnOnly, own_on}
 use Rattle.index_machine.proofs.RepresentingAll.{represented}
+use Rattle.index_rule.specs.declared.board.Board.{Board}
+use Rattle.index_rule.specs.declared.hand.Hand.{Hand}
 use Rattle.index_rule.specs.declared.view.View.{View}
+use Rattle.index_rule.specs.Hands.{IsHandOf, known, opening_of}
 use Rattle.index_rule.specs.Records.{CanReadSlot}
 use Rattle.index_rule.specs.Rule.{Kept, Does, word_in}
 use Rattle.index_rule.specs.Steps.{slot_group_load}
@@ -92,6 +97,14 @@ sees_word o t valid c side i can =
     (low, omega arith))
     (λ (z : IsKeeper o c × (side < 2) × (i < (limits o).slots)). (z.1, z.2)) can
 
+-- so a slot that the hand can read is
+pub slot_by_hand : (b : Board) (h : Hand) (side i : ℕ) → IsHandOf b h →
+    CanReadSlot (opening_of b) h.number side i (known h) →
+    (side < 2) × (i < (limits (opening_of b)).slots)
+slot_by_hand b h side i of can =
+    ∥∥₁_elim (h.following (opening_of b) of.opened) (hlevel props)
+    (λ follows. sees_word (opening_of b) (known h) follows.valid h.number side i can)
+
 -- ---- what others leave ----
 
 root_seen_after-own_only : ChangesOwnOnly root_seen_after
@@ -117,7 +130,7 @@ module _ (o : Opening) (slots id : ℕ) (me : Me (Unit {0}) View) (c : ℕ)
   loads_root a may at =
       subst (λ (z : ℕ). Allows (Kept o) slots id me z (λ n. n) (λ n x. Does me (LoadRoot n) x))
       (sym at)
-      (loads o slots id me c is live Root (λ n. LoadRoot n) tt (λ _. refl)
+      (loads o slots id me c is live Root (λ n. LoadRoot n) tt (λ _. tt) (λ _. refl)
       (λ t valid newer e out. record {
         allowed = ⊎_elim
             (λ (reading : IsReading o c me.0.known).
@@ -135,7 +148,7 @@ module _ (o : Opening) (slots id : ℕ) (me : Me (Unit {0}) View) (c : ℕ)
   loads_slot_group side i a can is_word at =
       by_name o slots id me c is live (SlotGroup side i) a (λ n. n) slot_group_load is_word at
       (loads o slots id me c is live (SlotGroup side i) (λ n. LoadSlotGroup side i n) is_word
-      (λ _. refl)
+      (λ _. tt) (λ _. refl)
       (λ t valid newer e out. record {
         allowed = subst (MayReadSlot o c side i) e (sees_on o c side i newer me.0.known out can);
         found_word = refl;
