@@ -4,7 +4,7 @@ use Rattle.std.proofs.Common.{◌++◌, sym, ap, ◌∙◌, subst, arith}
 use Rattle.std.specs.Prelude.{◌==◌}
 use mathlib.Core.Logic.{dite}
 use native.Mathlib.Decide.{ℕ_discrete}
-use Rattle.word_layout.specs.State.{IsLockable, IsUnlockedWord, word_of_state}
+use Rattle.word_layout.specs.State.{word_of_state}
 use Rattle.word_layout.specs.declared.state.State.TheVariants as state
 use Rattle.index_machine.specs.declared.events.Action.{Action}
 use Rattle.index_machine.specs.declared.events.Action.TheVariants.{Close, Copy, LinkRow, Lock}
@@ -175,9 +175,13 @@ locked_now o c q expected t may place v r x y e =
           ∙ ap (λ (z : Fields). word_of_state (state.Direct z.1 false z.2)) same);
       raisable = subst (λ (z : ℕ). z < last_version) (ap (λ (z : Fields). z.1) same) may.raisable;
     })
-    (λ (elsewhere : q ≢ place). absurd (may.holds_none place
-    (v, r, x, y,
-    sym (choice-other q place (with_lock c (form o place t)) (form o place t) elsewhere) ∙ e)))
+    (λ (elsewhere : q ≢ place). absurd (may.holds_none place (
+      v,
+      r,
+      x,
+      y,
+      sym (choice-other q place (with_lock c (form o place t)) (form o place t) elsewhere) ∙ e,
+    )))
 
 -- and after a step of the caller's own
 pub locked_word_own : (o : Opening) (c word : ℕ) (d : Action) (t : Execution) → IsCaller o c →

@@ -128,11 +128,13 @@ follows : (o : Opening) (c p to : ℕ) (t : Execution) → Valid o t → IsCalle
     IsReading o c t × IsInArrayOf o c p t
 follows o c p to t valid caller can e =
     ⊎_elim
-    (λ (at : IsAt o c p t).
-    (at.reading, ⊎_elim (λ (z : IsInArrayOf o c p t). z)
-    (λ (z : reached c p t ≡ true).
-    let f = forwards_by_word (form o p t) to e in
-    absurd ((reached_forms o t valid c p caller z).0 f.0 f.1 f.2)) at.there))
+    (λ (at : IsAt o c p t). (
+      at.reading,
+      ⊎_elim (λ (z : IsInArrayOf o c p t). z)
+          (λ (z : reached c p t ≡ true).
+          let f = forwards_by_word (form o p t) to e in
+          absurd ((reached_forms o t valid c p caller z).0 f.0 f.1 f.2)) at.there,
+    ))
     (λ (z : IsKeeper o c × HasKey o p t). absurd (let keeper = z.0 in omega arith)) can
 
 may_load_state : (o : Opening) (c p : ℕ) (t : Execution) → Valid o t → CanSee o c p t →
@@ -342,8 +344,13 @@ module _ (o : Opening) (slots id : ℕ) (me : Me (Unit {0}) View) (c : ℕ)
       (stores o slots id me c is live (PlaceWord p Value) y (StoreValue p y) is_place tt refl
       (λ t valid newer e out. let now = at_now t newer p valid e out at in (
         at.reading.caller,
-        (held.0, held.1, held.2, held.3,
-            locked_now t newer p valid e out at held.0 held.2 held.3 held.1 held.4),
+        (
+          held.0,
+          held.1,
+          held.2,
+          held.3,
+          locked_now t newer p valid e out at held.0 held.2 held.3 held.1 held.4,
+        ),
         at_keyed o c p t valid now,
       )))
 

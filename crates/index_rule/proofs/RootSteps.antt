@@ -2,7 +2,7 @@
 --
 -- The fact to remember: a root word names no more slots than the table has (sees_word).
 use Rattle.std.proofs.Common.{◌≡◌, ℕ, ◌+◌, ◌*◌, ◌<◌, ◌≤◌, ◌⊎◌, inl, inr, ⊎_elim, Bool, true, false}
-use Rattle.std.proofs.Common.{cond, Option, Some, None, [], ◌∷◌, ◌++◌, refl, sym, ap, ◌∙◌, subst, arith}
+use Rattle.std.proofs.Common.{cond, Some, None, [], ◌∷◌, ◌++◌, refl, sym, ◌∙◌, subst, arith}
 use Rattle.std.specs.Prelude.{◌==◌}
 use Rattle.std.proofs.Math.Logic.{∥∥₁_elim}
 use Rattle.std.proofs.Props.{props}
@@ -116,8 +116,14 @@ sees_on : (o : Opening) (c side i : ℕ) (n t : Execution) → Without c n →
 sees_on o c side i n t out can =
     ⊎_elim
     (λ (z : IsReading o c t × SeesSlot c side i t).
-    inl (reading_on o c n t (stays_inside c n out) z.0, (z.1.0,
-    own_on root_seen_after None root_seen_after-own_only c n t out ∙ z.1.1, z.1.2)))
+    inl (
+      reading_on o c n t (stays_inside c n out) z.0,
+      (
+        z.1.0,
+        own_on root_seen_after None root_seen_after-own_only c n t out ∙ z.1.1,
+        z.1.2,
+      ),
+    ))
     (λ (z : IsKeeper o c × (side < 2) × (i < (limits o).slots)). inr z.0) can
 
 -- ---- the steps ----

@@ -191,15 +191,17 @@ locked_stepped : (v : View) (d : Action) (newer : Execution) (c x : ℕ) → v.n
     Without c newer →
     ((o : Opening) → v.opening ≡ Some o → Valid o (stepped v d newer).known) →
     KeepsLockedWord v c x → KeepsLockedWord (stepped v d newer) c (locked_word_after d x)
-locked_stepped v d newer c x is out valid old = record { kept = λ o of caller.
-    let mine : number v ≡ c = ap first_of is in
-    let may : Allowed o (newer ++ v.known) c d =
-    subst (λ (z : ℕ). Allowed o (newer ++ v.known) z d) mine (valid o of).0
-    in
-    subst (λ (z : ℕ). IsLockedWord o c (locked_word_after d x) (event z d ∷ newer ++ v.known))
-    (sym mine)
-    (locked_word_own o c x d (newer ++ v.known) caller may
-    (locked_word_on o c x newer v.known out (old.kept o of caller))) }
+locked_stepped v d newer c x is out valid old = record {
+  kept = λ o of caller.
+      let mine : number v ≡ c = ap first_of is in
+      let may : Allowed o (newer ++ v.known) c d =
+      subst (λ (z : ℕ). Allowed o (newer ++ v.known) z d) mine (valid o of).0
+      in
+      subst (λ (z : ℕ). IsLockedWord o c (locked_word_after d x) (event z d ∷ newer ++ v.known))
+      (sym mine)
+      (locked_word_own o c x d (newer ++ v.known) caller may
+      (locked_word_on o c x newer v.known out (old.kept o of caller)));
+}
 
 pub acts : (o : Opening) (slots id : ℕ) (me : Me (Unit {0}) View) (c : ℕ) (w : Word)
     (f : ℕ → ℕ) (d : ℕ → Action) → IsWord (limits o) w → me.0.numbers ≡ c ∷ [] →

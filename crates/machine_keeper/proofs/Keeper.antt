@@ -7,9 +7,8 @@ use native.Mathlib.Decide.{ℕ_discrete}
 use Rattle.index_machine.proofs.Executions.{choice-other, choice-same}
 use Rattle.index_machine.specs.Conditions.{Allowed, Valid}
 use Rattle.index_machine.specs.Execution.{Execution, event, own}
-use Rattle.index_machine.specs.Forms.{Copied, Locked, Moved, Redirect, Unlocked, copied_away}
-use Rattle.index_machine.specs.Forms.{is_removed, made_direct, put_value, with_lock, with_value}
-use Rattle.index_machine.specs.Forms.{without_lock}
+use Rattle.index_machine.specs.Forms.{Redirect, Unlocked, copied_away}
+use Rattle.index_machine.specs.Forms.{is_removed, made_direct}
 use Rattle.index_machine.specs.Groups.{IsInUse, phase, root}
 use Rattle.index_machine.specs.KeyRanges.{group_of, or_else, successor}
 use Rattle.index_machine.specs.LivePlaces.{live_place}
@@ -20,10 +19,9 @@ use Rattle.index_machine.specs.Reaching.{SeesSlot}
 use Rattle.index_machine.specs.Rows.{InArray, InBuffer, role, role_key}
 use Rattle.index_machine.specs.Sections.{IsCaller}
 use Rattle.index_machine.specs.declared.events.Action.{Action}
-use Rattle.index_machine.specs.declared.events.Action.TheVariants.{Close, Copy, Install, LinkRow}
-use Rattle.index_machine.specs.declared.events.Action.TheVariants.{Lock, StoreDirect, StoreMoved}
-use Rattle.index_machine.specs.declared.events.Action.TheVariants.{StoreRedirect, StoreValue}
-use Rattle.index_machine.specs.declared.events.Action.TheVariants.{Unlock}
+use Rattle.index_machine.specs.declared.events.Action.TheVariants.{Install, LinkRow}
+use Rattle.index_machine.specs.declared.events.Action.TheVariants.{StoreDirect}
+use Rattle.index_machine.specs.declared.events.Action.TheVariants.{StoreRedirect}
 use Rattle.index_machine.specs.declared.events.InstallWord.{InstallWord}
 use Rattle.index_machine.specs.declared.opening.Opening.{Opening}
 use Rattle.machine_barriers.proofs.OpenedGroups.{opened_groups_hold}
