@@ -10,6 +10,7 @@ mod closing;
 mod epochs;
 mod free_stack;
 mod laying;
+mod looking;
 mod opening;
 
 /// The shared words of one index. Each call that is given a hand is one atomic step, and keeps

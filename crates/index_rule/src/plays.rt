@@ -7,8 +7,10 @@ ghost use Rattle.index_machine.specs.declared.events.Action.TheVariants.{PushFre
 ghost use Rattle.index_rule.specs.Rule.{Does, word_in};
 ghost use Rattle.index_rule.specs.Steps.{epoch_load, link_load, private_store};
 
+use crate::looks::Sight;
 use crate::view::View;
 use atomic_table::{Join, Play, Split};
+use std::marker::PhantomData;
 
 pub struct LoadsEpoch;
 
@@ -59,6 +61,16 @@ impl Play<(), View> for PushesFree {
     ghost then = { λ st me n w.
         Does me (cond (n == st.first) (PushFree st.second st.first)
         (FailPush st.second st.first n)) w };
+}
+
+pub struct NotesLook<L: Sight> {
+    of: PhantomData<L>,
+}
+
+impl<L: Sight> Play<(), View> for NotesLook<L> {
+    ghost use Rattle.index_rule.specs.Looks.{Notes};
+
+    ghost then = { λ st me n w. Notes L.start L.key L.found me w };
 }
 
 pub struct MakesHand;
