@@ -10,3 +10,7 @@ pub mod Laid
 pub mod Ending
 pub mod FreeSteps
 pub mod Stepping
+mod Standing
+mod LockWords
+mod RecordSteps
+mod RootSteps

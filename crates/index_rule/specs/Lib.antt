@@ -9,3 +9,5 @@ pub mod OwnRows
 pub mod Seats
 pub mod Opened
 pub mod Ended
+pub mod LockWords
+pub mod Records
