@@ -1,6 +1,6 @@
 -- The rows of the opening: where each stands, and that no two have one key.
 use Rattle.std.proofs.Common.{◌≡◌, ◌≢◌, ℕ, ◌+◌, ◌-◌, ◌^◌, ◌<◌, ◌≤◌, Option, Some, None}
-use Rattle.std.proofs.Common.{[], ◌∷◌, length, refl, sym, ap, ◌∙◌, subst, arith}
+use Rattle.std.proofs.Common.{false, [], ◌∷◌, length, refl, sym, ap, ◌∙◌, subst, arith}
 use Rattle.std.specs.List.{AllByRecursion}
 use mathlib.Core.Logic.{dite}
 use native.Mathlib.Decide.{ℕ_discrete}
@@ -12,6 +12,8 @@ use Rattle.word_layout.proofs.WordNames.{array_inside}
 use Rattle.index_machine.specs.declared.opening.Opening.{Opening}
 use Rattle.index_machine.specs.Words.{limits}
 use Rattle.index_machine.specs.OpeningRows.{row_from, place_from, opening_row}
+use Rattle.index_machine.specs.Forms.{Unlocked, Redirect}
+use Rattle.index_machine.specs.Openings.{first_version, form_of_row, opening_form}
 use Rattle.index_machine.specs.Openings.{opening_live_place}
 use Rattle.index_machine.specs.Rows.{Unused, HeldBy, InArray, InBuffer, role_key, role_of_row}
 use Rattle.index_machine.specs.Rows.{opening_role}
@@ -174,6 +176,12 @@ pub opening_row-live : (o : Opening) (place k x : ℕ) → opening_row o place �
     opening_live_place o k ≡ Some place
 opening_row-live o place k x e = place_of_row (limits o) 0 o.rows place (k, x) o.rising e
 
+-- so no two rows have one key
+pub opening_row-one : (o : Opening) (place other k x y : ℕ) → opening_row o place ≡ Some (k, x) →
+    opening_row o other ≡ Some (k, y) → place ≡ other
+opening_row-one o place other k x y e f =
+    some_place (sym (opening_row-live o place k x e) ∙ opening_row-live o other k y f)
+
 -- ---- whose a place is at the opening ----
 
 -- a place with a key has the key's row
@@ -223,3 +231,21 @@ opening_role-row o place row = go (opening_row o place) refl
     go (Some r) e =
         let array = opening_row-place o place r e in
         absurd (array_not_row (limits o) 0 place array.group_exists array.in_array row)
+
+-- ---- what a place holds at the opening ----
+
+-- a place with a key holds its record, in the first version
+pub opening_form-keyed : (o : Opening) (place k : ℕ) → role_key (opening_role o place) ≡ Some k →
+    (x : ℕ) × (opening_form o place ≡ Unlocked (first_version o) false x)
+opening_form-keyed o place k e =
+    let row = opening_role-keyed o place k e in
+    (row.0, ap (form_of_row (first_version o)) row.1)
+
+-- no place forwards
+pub opening_form-redirect : {X : Type 0} (o : Opening) (place to value : ℕ) →
+    opening_form o place ≡ Redirect to value → X
+opening_form-redirect {X} o place to value e = go (opening_row o place) e
+  where
+    go : (r : Option (ℕ × ℕ)) → form_of_row (first_version o) r ≡ Redirect to value → X
+    go None e = let bad = e in cc
+    go (Some r) e = let bad = e in cc
