@@ -15,6 +15,8 @@ use Rattle.index_machine.specs.Execution.{Execution, Without, event}
 use Rattle.index_machine.specs.Forms.{Form, Blank, Unlocked, Locked, Copied, Redirect, Moved}
 use Rattle.index_machine.specs.Forms.{IsLockedBy, with_lock, with_value, without_lock}
 use Rattle.index_machine.specs.Forms.{made_direct, copied_away, form_after}
+use Rattle.index_machine.specs.OpeningRows.{opening_row}
+use Rattle.index_machine.specs.Openings.{form_of_row}
 use Rattle.index_machine.specs.Places.{first_version, form}
 use Rattle.index_machine.specs.RecordConditions.{HoldsNoLock}
 use Rattle.index_machine.specs.Sections.{IsCaller, IsInside, IsOutside, crossings}
@@ -161,7 +163,12 @@ holds_no_lock_on o hand (e ∷ newer) t out none =
 
 -- before the first event no hand holds a lock
 pub holds_no_lock_first : (o : Opening) (hand : ℕ) → HoldsNoLock o hand []
-holds_no_lock_first o hand place locked = no_holder hand (holder_is hand Blank locked)
+holds_no_lock_first o hand place locked = go (opening_row o place) locked
+  where
+    go : (r : Option (ℕ × ℕ)) → IsLockedBy hand (form_of_row (first_version o) r) → ⊥
+    go None locked = no_holder hand (holder_is hand Blank locked)
+    go (Some r) locked =
+        no_holder hand (holder_is hand (Unlocked (first_version o) false r.1) locked)
 
 -- ---- holders are inside ----
 
@@ -194,7 +201,8 @@ own_step o t hand d may caller before place locked =
 
 pub holders_inside : (o : Opening) (t : Execution) → Valid o t → (caller : ℕ) →
     IsCaller o caller → (place : ℕ) → IsLockedBy caller (form o place t) → IsInside caller t
-holders_inside o [] valid caller is place locked = no_holder caller (holder_is caller Blank locked)
+holders_inside o [] valid caller is place locked =
+    absurd (holds_no_lock_first o caller place locked)
 holders_inside o (e ∷ t) valid caller is place locked =
     dite (ℕ_discrete e.by caller)
     (λ (own : e.by ≡ caller).

@@ -30,7 +30,8 @@ use Rattle.index_machine.specs.Words.{limits, word}
 use Rattle.index_machine.specs.Rows.{Unused, role, role_key, below_top, free_stack}
 use Rattle.index_machine.specs.Conditions.{Allowed, Valid}
 use Rattle.index_machine.specs.RowLaws.{Chain, IsLinked}
-use Rattle.index_machine.proofs.Placing.{placed, unused-held, array_not_row}
+use Rattle.index_machine.proofs.OpeningRows.{array_not_row}
+use Rattle.index_machine.proofs.Placing.{placed, unused-held}
 use Rattle.index_machine.proofs.Stores.{store_apart, keyless_words}
 
 -- a private store leaves the words of every other row

@@ -1,16 +1,15 @@
 -- Each record row is in just one place.
 --
 -- The fact to remember: a row leaves a hand by that hand's own actions alone (holds_on).
-use Rattle.std.proofs.Common.{◌≡◌, ◌≢◌, ◌⊎◌, inl, inr, ⊎_elim, ℕ, zero, suc, ◌+◌, ◌-◌, ◌<◌, ◌≤◌}
+use Rattle.std.proofs.Common.{◌≡◌, ◌≢◌, ◌⊎◌, inl, inr, ⊎_elim, ℕ, zero, suc, ◌+◌, ◌<◌, ◌≤◌}
 use Rattle.std.proofs.Common.{Bool, true, false, cond, List, [], ◌∷◌, ◌++◌, refl, sym, ap, ◌∙◌}
 use Rattle.std.proofs.Common.{subst, arith}
 use Rattle.std.specs.Prelude.{◌==◌}
 use mathlib.Core.Logic.{dite}
 use native.Mathlib.Decide.{ℕ_discrete}
 use Rattle.word_layout.specs.declared.limits.Limits.{Limits}
-use Rattle.word_layout.specs.Addresses.{row_address, array_address}
-use Rattle.word_layout.specs.Places.{IsRow, IsArrayPlace, rows_from}
-use Rattle.word_layout.proofs.WordNames.{array_inside}
+use Rattle.word_layout.specs.Addresses.{row_address}
+use Rattle.word_layout.specs.Places.{IsRow, rows_from}
 use Rattle.map_model.specs.Map.{key_of}
 use Rattle.word_layout.proofs.RowPlaces.{IsRow-row_address, row_number, row_address-injective}
 use Rattle.index_machine.specs.declared.events.Action.{Action}
@@ -27,6 +26,9 @@ use Rattle.index_machine.specs.Conditions.{Allowed, Valid}
 use Rattle.index_machine.specs.RebuildConditions.{IsArrayPlaceOf}
 use Rattle.index_machine.specs.RowLaws.{RowsPlaced}
 use Rattle.index_machine.proofs.Executions.{choice-same, choice-other}
+use Rattle.index_machine.proofs.OpeningRows.{array_not_row, opening_role-array}
+use Rattle.index_machine.proofs.OpeningRows.{opening_role-buffer, opening_role-held}
+use Rattle.index_machine.proofs.OpeningRows.{opening_role-row, opening_row-place}
 
 -- ---- roles ----
 
@@ -93,14 +95,15 @@ placed_first o =
       free = λ place h.
           let r = in_rows l 0 l.records place h in
           let high : r.0 < l.records = omega arith in
-          (refl, subst (IsRow l) (sym r.3) (IsRow-row_address l r.0 high));
+          let row : IsRow l place = subst (IsRow l) (sym r.3) (IsRow-row_address l r.0 high) in
+          (opening_role-row o place row, row);
       once = rows-distinct l 0 l.records;
       all = λ place row _.
           let r = row_number l place row in
           subst (λ (p : ℕ). In p (rows_from l 0 l.records)) (sym r.2)
           (row_in l 0 l.records r.0 (omega arith) (omega arith));
-      held = λ hand place e. unused-held e;
-      one = λ caller place other is e f. unused-held e;
+      held = λ hand place e. opening_role-held o place hand e;
+      one = λ caller place other is e f. opening_role-held o place caller e;
     }
 
 -- ---- what a pop and a push do to the roles ----
@@ -294,13 +297,6 @@ placed_set o t by action q u old same roles taken some new =
           (before place (HeldBy caller) mine);
     }
 
-pub array_not_row : (l : Limits) (group place : ℕ) → group < l.groups →
-    IsArrayPlace l group place → IsRow l place → ⊥
-array_not_row l group place known array row =
-    let inside = array_inside l group place 0 known array (omega arith) in
-    let low = row.0 in let k : ℕ = place - array_address l group 0 in
-    let where_it_is = inside.2 in let high = inside.1 in omega arith
-
 buffer_held : {X : Type 0} {group k hand : ℕ} → InBuffer group k ≡ HeldBy hand → X
 buffer_held e = cc
 
@@ -465,8 +461,11 @@ sited : (o : Opening) (t : Execution) → Valid o t → Sited o t
 sited o [] valid =
     record {
       rows = placed_first o;
-      buffers = λ place group k e. let bad = e in cc;
-      arrays = λ place group k e. let bad = e in cc;
+      buffers = λ place group k e. opening_role-buffer o place group k e;
+      arrays = λ place group k e.
+          let w = opening_role-array o place group k e in
+          subst (λ (g : ℕ). IsArrayPlaceOf o g place) (sym w.0)
+          (opening_row-place o place (k, w.1) w.2);
     }
 sited o (e ∷ t) valid =
     let old = sited o t valid.1 in

@@ -1,6 +1,6 @@
 -- The words stand for the state, through the actions on epoch words, on the free stack and on rows
 -- in hands.
-use Rattle.std.proofs.Common.{◌≡◌, ◌≢◌, ℕ, Some, None, cond, [], ◌∷◌}
+use Rattle.std.proofs.Common.{◌≡◌, ◌≢◌, ℕ, Option, Some, None, cond, [], ◌∷◌}
 use Rattle.std.proofs.Common.{refl, sym, ap, ◌∙◌, subst}
 use Rattle.std.specs.Prelude.{◌==◌}
 use mathlib.Core.Logic.{dite}
@@ -17,12 +17,15 @@ use Rattle.index_machine.specs.Represents.{IsRepresented, Represents}
 use Rattle.index_machine.specs.Execution.{Execution, event}
 use Rattle.index_machine.specs.Words.{word}
 use Rattle.index_machine.specs.Rows.{Role, Unused, HeldBy, role, role_key, Holds}
-use Rattle.index_machine.specs.Forms.{HasValueWord}
-use Rattle.index_machine.specs.Places.{form}
+use Rattle.index_machine.specs.Forms.{HasValueWord, state_word}
+use Rattle.index_machine.specs.OpeningRows.{opening_row, value_word, key_word, row_state_word}
+use Rattle.index_machine.specs.Openings.{form_of_row}
+use Rattle.index_machine.specs.Places.{first_version, form}
 use Rattle.index_machine.proofs.Executions.{choice-same, choice-other}
 use Rattle.index_machine.proofs.Stores.{store_apart}
 use Rattle.index_machine.proofs.Counting.{counted}
 use Rattle.index_machine.proofs.Linking.{linked}
+use Rattle.index_machine.proofs.OpeningRows.{opening_role-keyed}
 
 pub none-some : {X : Type 0} {k : ℕ} → None ≡ Some k → X
 none-some e = cc
@@ -49,14 +52,22 @@ OpeningIsRepresented = (o : Opening) → IsRepresented o []
 abbrev pub RowsAndEpochsRepresent : Type 0
 RowsAndEpochsRepresent = (action : Action) → IsOnRowsOrEpochs action → Represents action
 
+-- the state word of a row is that of its form
+state_of_row : (first : ℕ) (r : Option (ℕ × ℕ)) →
+    row_state_word first r ≡ state_word (form_of_row first r)
+state_of_row first None = refl
+state_of_row first (Some r) = refl
+
 pub opening_represented : OpeningIsRepresented
 opening_represented o =
     record {
       epochs = (counted o [] tt).count;
       free_rows = linked o [] tt;
-      keys = λ place k e. none-some e;
-      values = λ place keyed. none-some keyed.1;
-      states = λ place keyed. none-some keyed.1;
+      keys = λ place k e. ap key_word (opening_role-keyed o place k e).1;
+      values = λ place keyed.
+          subst (λ (r : Option (ℕ × ℕ)). HasValueWord (form_of_row (first_version o) r) (value_word r))
+          (sym (opening_role-keyed o place keyed.0 keyed.1).1) refl;
+      states = λ place keyed. state_of_row (first_version o) (opening_row o place);
       phases = λ group fresh. refl;
       slots = λ side i. refl;
       root_word = refl;

@@ -19,7 +19,7 @@ use Rattle.index_machine.specs.Places.{IsInGroup}
 use Rattle.index_machine.specs.RecordConditions.{HasKey}
 use Rattle.index_machine.specs.RebuildConditions.{IsArrayPlaceOf}
 use Rattle.index_machine.specs.Conditions.{Allowed}
-use Rattle.index_machine.proofs.Placing.{array_not_row}
+use Rattle.index_machine.proofs.OpeningRows.{array_not_row}
 
 some-none : {X : Type 0} {k : ℕ} → None ≡ Some k → X
 some-none e = cc

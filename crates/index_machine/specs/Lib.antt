@@ -1,5 +1,6 @@
 pub mod Execution
 pub mod Lists
+pub mod OpeningRows
 pub mod Words
 pub mod Sections
 pub mod Rows

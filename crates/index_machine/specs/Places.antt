@@ -2,14 +2,10 @@
 use Rattle.std.specs.Prelude.{◌≡◌, ◌⊎◌, ℕ, [], ◌∷◌}
 use Rattle.index_machine.specs.declared.opening.Opening.{Opening}
 use Rattle.index_machine.specs.Execution.{Execution}
-use Rattle.index_machine.specs.Words.{limits}
 use Rattle.index_machine.specs.Rows.{role, InArray, InBuffer}
 use Rattle.index_machine.specs.Forms.{Form, form_after}
 use Rattle.index_machine.specs.Openings.{opening_form}
-
--- the version of a new record
-abbrev pub first_version : Opening → ℕ
-first_version o = (limits o).first_version
+pub use Rattle.index_machine.specs.Openings.{first_version}
 
 -- the form of the place after the execution
 abbrev pub form : Opening → ℕ → Execution → Form

@@ -10,6 +10,7 @@ use Rattle.index_machine.specs.declared.events.Action.TheVariants.{LinkRow, Reti
 use Rattle.index_machine.specs.declared.events.Action.TheVariants.{StoreRedirect, NewGroup}
 use Rattle.index_machine.specs.declared.opening.Opening.{Opening}
 use Rattle.index_machine.specs.Execution.{Execution}
+use Rattle.index_machine.specs.OpeningRows.{opening_row}
 use Rattle.index_machine.specs.Words.{limits}
 
 -- ---- whose a place is ----
@@ -36,9 +37,14 @@ emptied group (HeldBy hand) = HeldBy hand
 emptied group (InArray g k) = cond (g == group) Unused (InArray g k)
 emptied group (InBuffer g k) = InBuffer g k
 
+-- whose a place with this row of the opening is
+abbrev pub role_of_row : Option (ℕ × ℕ) → Role
+role_of_row None = Unused
+role_of_row (Some row) = InArray 0 row.0
+
 -- whose the place is as the table is opened: all record rows are free
 abbrev pub opening_role : Opening → ℕ → Role
-opening_role o place = Unused
+opening_role o place = role_of_row (opening_row o place)
 
 -- whose the place is after an action of the hand, where it was this before
 abbrev pub role_after : ℕ → ℕ → Action → Role → Role

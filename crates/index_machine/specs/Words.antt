@@ -1,7 +1,7 @@
 -- The words that an execution leaves.
 --
 -- The fact to remember: they are the opening words with the stores of the events made in order.
-use Rattle.std.specs.Prelude.{ℕ, zero, suc, ◌+◌, cond, Option, Some, None, [], ◌∷◌}
+use Rattle.std.specs.Prelude.{ℕ, zero, suc, ◌+◌, cond, ◌==◌, Option, Some, None, [], ◌∷◌, length}
 use Rattle.word_layout.specs.declared.limits.Limits.{Limits}
 use Rattle.word_layout.specs.declared.places.Part.TheVariants.{Key, Value, State, Link}
 use Rattle.word_layout.specs.declared.headers.HeaderWord.TheVariants as header
@@ -33,6 +33,7 @@ use Rattle.index_machine.specs.declared.events.InstallWord.{InstallWord}
 use Rattle.index_machine.specs.declared.events.InstallWord.TheVariants.{NextOf, FirstSlot}
 use Rattle.index_machine.specs.declared.opening.Opening.{Opening}
 use Rattle.index_machine.specs.Execution.{Execution}
+use Rattle.index_machine.specs.OpeningRows.{opening_row, key_word, value_word, row_state_word}
 
 -- the limits of the table
 abbrev pub limits : Opening → Limits
@@ -100,17 +101,19 @@ stored (Some s) w n = cond (same_word s.word w) s.value n
 
 -- a word of the table as it is opened: all record rows are on the free stack, row 0 first, every
 -- caller is outside, and the root names side 0, on which one slot is in use; it has the pivot 0 and
--- names group 0
+-- names group 0, whose array has the opening's rows
 abbrev pub opening_word : Opening → Word → ℕ
 opening_word o FreeHead = row_address (limits o) 0
 opening_word o Root = word_of_root 1 0
 opening_word o (Epoch caller) = 0
 opening_word o (SlotPivot side i) = 0
 opening_word o (SlotGroup side i) = 0
-opening_word o (Header group part) = 0
-opening_word o (PlaceWord place Key) = 0
-opening_word o (PlaceWord place Value) = 0
-opening_word o (PlaceWord place State) = 0
+opening_word o (Header group header.Size) = cond (group == 0) (length o.rows) 0
+opening_word o (Header group _) = 0
+opening_word o (PlaceWord place Key) = key_word (opening_row o place)
+opening_word o (PlaceWord place Value) = value_word (opening_row o place)
+opening_word o (PlaceWord place State) =
+    row_state_word (limits o).first_version (opening_row o place)
 opening_word o (PlaceWord place Link) = next_row (limits o) place
 
 -- what a word holds after the execution

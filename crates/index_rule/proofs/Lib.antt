@@ -1,5 +1,7 @@
+pub mod BuiltLaws
 pub mod Logging
 pub mod Steps
+pub mod Looking
 pub mod Seats
 pub mod Opens
 pub mod StepKinds

@@ -10,6 +10,7 @@ mod closing;
 mod epochs;
 mod free_stack;
 mod laying;
+mod looking;
 mod opening;
 mod records;
 mod root;

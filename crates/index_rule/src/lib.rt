@@ -7,6 +7,7 @@
 
 mod board;
 mod hand;
+mod looks;
 mod own_rows;
 mod plays;
 mod rows;
@@ -16,6 +17,7 @@ mod view;
 
 pub use board::Board;
 pub use hand::Hand;
+pub use looks::Sight;
 pub use own_rows::OwnRow;
 pub use rows::{PrivateRow, RetiredRow};
 pub use rule::{Place, Words};

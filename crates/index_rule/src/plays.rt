@@ -9,8 +9,10 @@ ghost use Rattle.index_rule.specs.Steps.{epoch_load, link_load, private_store};
 ghost use Rattle.index_rule.specs.Steps.{slot_group_load, state_load, value_load};
 ghost use Rattle.index_rule.specs.Steps.{lock_made, lock_failed, value_store, unlock_store};
 
+use crate::looks::Sight;
 use crate::view::View;
 use atomic_table::{Join, Play, Split};
+use std::marker::PhantomData;
 
 pub struct LoadsEpoch;
 
@@ -105,6 +107,16 @@ pub struct Unlocks;
 
 impl Play<(), View> for Unlocks {
     ghost then = { λ st me n w. Does me (unlock_store me.0 (word_in me.0 st.word) n) w };
+}
+
+pub struct NotesLook<L: Sight> {
+    of: PhantomData<L>,
+}
+
+impl<L: Sight> Play<(), View> for NotesLook<L> {
+    ghost use Rattle.index_rule.specs.Looks.{Notes};
+
+    ghost then = { λ st me n w. Notes L.start L.key L.found me w };
 }
 
 pub struct MakesHand;

@@ -61,7 +61,14 @@ four_group_layout =
     }
 
 abbrev pub o : Opening
-o = record { layout = four_group_layout }
+o =
+    record {
+      layout = four_group_layout;
+      rows = [];
+      rising = tt;
+      few = omega arith;
+      keys = tt;
+    }
 
 -- ---- the execution, event by event ----
 

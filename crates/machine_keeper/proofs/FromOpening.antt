@@ -1,5 +1,6 @@
 -- The laws, from what stands at the opening.
 use Rattle.std.proofs.Common.{◌≢◌, ℕ, [], ◌++◌, sym, ap, ◌∙◌}
+use Rattle.index_machine.proofs.OpeningRows.{opening_form-redirect}
 use Rattle.index_machine.specs.Execution.{own}
 use Rattle.index_machine.specs.Forms.{Redirect}
 use Rattle.index_machine.specs.Places.{form}
@@ -47,7 +48,7 @@ pub closed_buffers : ClosedBuffersGainNoRow
 closed_buffers o t b d g k q may none e = rows_final o t b d g k q may none e
 
 opening-no_redirect : (o : Opening) → (a q y : ℕ) → form o a [] ≢ Redirect q y
-opening-no_redirect o a q y e = let bad = e in cc
+opening-no_redirect o a q y e = opening_form-redirect o a q y e
 
 pub all_pending : RedirectsArePending
 all_pending o t valid a q y e = redirects_are_pending o (opening-no_redirect o) t valid a q y e

@@ -28,7 +28,7 @@ use Rattle.machine_keeper.specs.NameUsedAgain.{NamesAreUsedAgain}
 use Rattle.machine_places.proofs.Forms.{named_before, none_some, not_so, some_is}
 use Rattle.word_layout.specs.declared.headers.HeaderWord.TheVariants as header
 use Rattle.word_layout.specs.declared.phase.Phase.TheVariants.{Open, Opened}
-use Rattle.machine_keeper.proofs.FourGroups.{four_group_layout, o, frozen_0, step_1, step_2}
+use Rattle.machine_keeper.proofs.FourGroups.{o, frozen_0, step_1, step_2}
 use Rattle.machine_keeper.proofs.FourGroups.{step_3, step_4, step_5, frozen_1, step_6, step_7}
 use Rattle.machine_keeper.proofs.FourGroups.{step_8, frozen_2, step_10, step_11, step_12}
 use Rattle.machine_keeper.proofs.FourGroups.{is_low, is_high, new_1, group_1, new_2, group_2}
@@ -591,7 +591,8 @@ opens2 = record {
 
 pub name_again_valid : NamesAreUsedAgain
 name_again_valid = (
-  four_group_layout,
+  o,
+  refl,
   refl,
   (opens2, (begins_again, valid_11, is_keeper), is_keeper),
 )

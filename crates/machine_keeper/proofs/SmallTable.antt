@@ -60,7 +60,14 @@ small_layout =
     }
 
 abbrev pub o : Opening
-o = record { layout = small_layout }
+o =
+    record {
+      layout = small_layout;
+      rows = [];
+      rising = tt;
+      few = omega arith;
+      keys = tt;
+    }
 
 -- ---- the execution, event by event ----
 

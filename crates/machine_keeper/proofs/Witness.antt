@@ -35,7 +35,7 @@ use Rattle.machine_keeper.proofs.SmallTable.{again_1, again_2, again_3}
 use Rattle.machine_keeper.proofs.SmallTable.{o}
 use Rattle.machine_keeper.proofs.SmallTable.{popped_1, popped_2, popped_3, popped_5}
 use Rattle.machine_keeper.proofs.SmallTable.{redirected, rebuilt_1, rebuilt_10, rebuilt_2, rebuilt_3, rebuilt_5}
-use Rattle.machine_keeper.proofs.SmallTable.{rebuilt_7, rebuilt_9, small_layout}
+use Rattle.machine_keeper.proofs.SmallTable.{rebuilt_7, rebuilt_9}
 use Rattle.machine_keeper.specs.Witness.{WholeRebuildIsValid}
 use Rattle.machine_places.proofs.Forms.{none_some, not_so, some_is}
 use Rattle.index_machine.specs.Words.{word}
@@ -478,4 +478,4 @@ begins_again = record {
 }
 
 pub whole_rebuild_valid : WholeRebuildIsValid
-whole_rebuild_valid = (small_layout, refl, (begins_again, valid_again_3, is_hand1))
+whole_rebuild_valid = (o, refl, refl, (begins_again, valid_again_3, is_hand1))

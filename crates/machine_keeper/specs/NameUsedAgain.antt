@@ -4,13 +4,13 @@
 -- The table has one caller, which does nothing, a keeper, 1, and four groups.
 use Rattle.std.specs.Prelude.{◌≡◌, [], ◌∷◌}
 use Rattle.word_layout.specs.declared.limits.Limits.{Limits}
-use Rattle.word_layout.specs.declared.layout.Layout.{Layout}
 use Rattle.word_layout.specs.declared.headers.HeaderWord.TheVariants as header
-use Rattle.word_layout.specs.Layout.{limits_of}
 use Rattle.index_machine.specs.declared.events.Action.TheVariants.{Freeze, NewGroup, StoreHeader}
 use Rattle.index_machine.specs.declared.events.Action.TheVariants.{StoreOpened, Install}
 use Rattle.index_machine.specs.declared.events.InstallWord.TheVariants.{FirstSlot}
+use Rattle.index_machine.specs.declared.opening.Opening.{Opening}
 use Rattle.index_machine.specs.Execution.{Execution, event}
+use Rattle.index_machine.specs.Words.{limits}
 use Rattle.index_machine.specs.Openings.{greatest_key}
 use Rattle.index_machine.specs.Conditions.{Valid}
 
@@ -60,8 +60,7 @@ named_again =
     ∷ event 1 (Freeze 2)
     ∷ first_row_free
 
--- on some table with these limits this is valid
+-- on some table with these limits, opened without rows, this is valid
 abbrev pub NamesAreUsedAgain : Type 0
 NamesAreUsedAgain =
-    (layout : Layout) × (limits_of layout ≡ four_groups)
-    × Valid (record { layout = layout }) named_again
+    (o : Opening) × (limits o ≡ four_groups) × (o.rows ≡ []) × Valid o named_again

@@ -5,8 +5,6 @@
 -- groups. The first place of the array of group 1 is 55.
 use Rattle.std.specs.Prelude.{◌≡◌, false, [], ◌∷◌}
 use Rattle.word_layout.specs.declared.limits.Limits.{Limits}
-use Rattle.word_layout.specs.declared.layout.Layout.{Layout}
-use Rattle.word_layout.specs.Layout.{limits_of}
 use Rattle.word_layout.specs.declared.places.Part.TheVariants.{Key, Value, Link}
 use Rattle.map_model.specs.declared.entries.Change.TheVariants as change
 use Rattle.index_machine.specs.declared.events.Action.TheVariants.{Enter, Leave, LoadFree}
@@ -25,7 +23,9 @@ use Rattle.index_machine.specs.declared.events.Action.TheVariants.{LoadRoot, Loa
 use Rattle.index_machine.specs.declared.events.Action.TheVariants.{StoreHeader}
 use Rattle.word_layout.specs.declared.headers.HeaderWord.TheVariants as header
 use Rattle.index_machine.specs.declared.events.InstallWord.TheVariants.{FirstSlot}
+use Rattle.index_machine.specs.declared.opening.Opening.{Opening}
 use Rattle.index_machine.specs.Execution.{Execution, event}
+use Rattle.index_machine.specs.Words.{limits}
 use Rattle.index_machine.specs.Openings.{greatest_key}
 use Rattle.index_machine.specs.Conditions.{Valid}
 
@@ -119,8 +119,8 @@ whole_rebuild =
     ∷ event 1 (Freeze 1)
     ∷ with_the_row_used_again
 
--- on some table with these limits the whole rebuild is valid, so all conditions can be met together
+-- on some table with these limits, opened without rows, the whole rebuild is valid, so all
+-- conditions can be met together
 abbrev pub WholeRebuildIsValid : Type 0
 WholeRebuildIsValid =
-    (layout : Layout) × (limits_of layout ≡ small_limits)
-    × Valid (record { layout = layout }) whole_rebuild
+    (o : Opening) × (limits o ≡ small_limits) × (o.rows ≡ []) × Valid o whole_rebuild

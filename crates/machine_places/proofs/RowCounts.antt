@@ -1,6 +1,6 @@
 -- The record rows in buffers and the retired ones against the inserting changes.
-use Rattle.std.proofs.Common.{◌≡◌, ◌≢◌, ℕ, ◌+◌, ◌≤◌, inl, inr, Option, None, Bool, true, false}
-use Rattle.std.proofs.Common.{List, [], ◌∷◌, cond, refl, sym, ap, ◌∙◌, subst, arith, ne_eqb}
+use Rattle.std.proofs.Common.{◌≡◌, ◌≢◌, ℕ, ◌+◌, ◌≤◌, inl, inr, Option, Some, None, Bool, true}
+use Rattle.std.proofs.Common.{false, List, [], ◌∷◌, cond, refl, sym, ap, ◌∙◌, subst, arith, ne_eqb}
 use Rattle.std.specs.Prelude.{◌==◌, is_none}
 use Rattle.std.specs.List.{count_by}
 use Rattle.std.proofs.lemmas.List.Sums.{sum_by-cons}
@@ -12,9 +12,11 @@ use Rattle.index_machine.specs.Conditions.{Allowed, Valid}
 use Rattle.index_machine.specs.Execution.{Execution, event}
 use Rattle.index_machine.specs.Lists.{AreDistinct, In}
 use Rattle.index_machine.specs.LivePlaces.{history}
+use Rattle.index_machine.specs.OpeningRows.{opening_row}
 use Rattle.index_machine.specs.Openings.{opening_map}
 use Rattle.index_machine.specs.RecordConditions.{Makes, MayLink}
 use Rattle.index_machine.specs.Rows.{HeldBy, InArray, InBuffer, Role, Unused, emptied, role}
+use Rattle.index_machine.specs.Rows.{role_of_row}
 use Rattle.index_machine.specs.Words.{limits}
 use Rattle.index_machine.specs.declared.events.Action.{Action}
 use Rattle.index_machine.specs.declared.events.Action.TheVariants.{LinkRow, NewGroup, PopFree}
@@ -209,9 +211,20 @@ covered o start [] valid = start
 covered o start (e ∷ t) valid =
     covered_step o t e.by e.action valid.1 valid.0 (covered o start t valid.1)
 
--- at the opening all rows are free
+-- at the opening no place is a linked row, nor a retired one
 opening-covered : (o : Opening) → IsCovered o []
-opening-covered o = let none = count_none (all_rows o) in omega (arith, none)
+opening-covered o =
+    let none = count_none (all_rows o) in
+    let no_more = count_kept (λ p. false)
+    (λ p. is_linked_or_retired (limits o).callers (role o p [])) (all_rows o)
+    (λ p i e. absurd (unlinked (limits o).callers (opening_row o p) e))
+    in
+    omega (arith, none, no_more)
+  where
+    unlinked : (keeper : ℕ) (r : Option (ℕ × ℕ)) →
+        is_linked_or_retired keeper (role_of_row r) ≡ true → ⊥
+    unlinked keeper None e = not_so e
+    unlinked keeper (Some r) e = not_so e
 
 pub linked_rows : LinkedRowsAreInserts
 linked_rows o t valid = covered o (opening-covered o) t valid

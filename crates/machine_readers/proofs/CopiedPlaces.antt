@@ -8,6 +8,7 @@ use Rattle.index_machine.specs.Groups.{phase}
 use Rattle.index_machine.specs.KeyRanges.{group_of, or_else, predecessor, successor}
 use Rattle.index_machine.specs.Openings.{within}
 use Rattle.index_machine.specs.Permissions.{IsReplaced}
+use Rattle.index_machine.proofs.OpeningRows.{opening_form-keyed, opening_role-buffer}
 use Rattle.index_machine.specs.Places.{IsInGroup, form}
 use Rattle.index_machine.specs.Rows.{InArray, InBuffer, role, role_key}
 use Rattle.index_machine.specs.declared.events.Action.{Action}
@@ -82,9 +83,9 @@ filled_step o t b d may old g k p s e = ⊎_elim
     (in_group_back o t b d g k p s)
 
 pub places_are_filled : (o : Opening) (t : Execution) → Valid o t → PlacesAreFilled o t
-places_are_filled o [] valid = λ g k p s e. ⊎_elim
-    (λ (z : role o p [] ≡ InArray g k). let bad = z in cc)
-    (λ (z : role o p [] ≡ InBuffer g k). let bad = z in cc) s
+places_are_filled o [] valid = λ g k p s e.
+    let first = opening_form-keyed o p k (in_group_keyed o [] g k p s) in
+    direct_empty (ap kind first.1) e
 places_are_filled o (e ∷ t) valid =
     filled_step o t e.by e.action valid.0 (places_are_filled o t valid.1)
 
@@ -111,7 +112,7 @@ rows_step o t b d may old g k p s e = ⊎_elim
     apart_direct w = let bad : Direct ≡ Forward = sym w ∙ e in cc
 
 pub rows_forward_nowhere : (o : Opening) (t : Execution) → Valid o t → RowsForwardNowhere o t
-rows_forward_nowhere o [] valid = λ g k p s e. let bad = s in cc
+rows_forward_nowhere o [] valid = λ g k p s e. opening_role-buffer o p g k s
 rows_forward_nowhere o (e ∷ t) valid =
     rows_step o t e.by e.action valid.0 (rows_forward_nowhere o t valid.1)
 
@@ -216,9 +217,9 @@ left_step o t b d may quiet await belong old g k p s e = ⊎_elim
     (in_group_back o t b d g k p s)
 
 pub copied_keys_have_left : (o : Opening) (t : Execution) → Valid o t → CopiedKeysHaveLeft o t
-copied_keys_have_left o [] valid = λ g k p s e. ⊎_elim
-    (λ (z : role o p [] ≡ InArray g k). let bad = z in cc)
-    (λ (z : role o p [] ≡ InBuffer g k). let bad = z in cc) s
+copied_keys_have_left o [] valid = λ g k p s e.
+    let first = opening_form-keyed o p k (in_group_keyed o [] g k p s) in
+    direct_away (ap kind first.1) e
 copied_keys_have_left o (e ∷ t) valid =
     left_step o t e.by e.action valid.0 (opened_groups_hold o t valid.1)
     (new_groups_await o t valid.1) (places_belong o t valid.1)

@@ -1,5 +1,6 @@
 -- The laws on what a caller can meet, from what stands at the opening.
 use Rattle.std.proofs.Common.{◌≡◌, ◌≢◌, ℕ, ◌⊎◌, inl, inr, [], ◌++◌, refl, ap}
+use Rattle.index_machine.proofs.OpeningRows.{opening_form-redirect}
 use Rattle.index_machine.specs.Forms.{Blank, Copied, Form, Locked, Moved, Redirect, Unlocked}
 use Rattle.index_machine.specs.Execution.{Execution}
 use Rattle.index_machine.specs.Conditions.{Valid}
@@ -18,7 +19,7 @@ use Rattle.machine_readers.specs.Targets.{PlacesOfKeysAreNotBlank, RedirectTarge
 use Rattle.machine_readers.specs.Targets.{RowsDoNotForward}
 
 opening-redirects : (o : Opening) → RedirectsLeadToOld o []
-opening-redirects o a g k q y s e = let bad = e in cc
+opening-redirects o a g k q y s e = opening_form-redirect o a q y e
 
 direct_is : (f : Form) → kind f ≡ Direct → IsDirect f
 direct_is Blank e = let bad = e in cc

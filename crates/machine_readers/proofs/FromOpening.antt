@@ -1,5 +1,7 @@
 -- The laws, from what stands at the opening.
 use Rattle.std.proofs.Common.{◌≡◌, ◌≢◌, ℕ, inr, [], sym, ap, ◌∙◌, subst}
+use Rattle.index_machine.proofs.OpeningRows.{opening_form-redirect, opening_role-array}
+use Rattle.index_machine.proofs.OpeningRows.{opening_role-buffer, opening_row-one}
 use Rattle.index_machine.specs.Execution.{own}
 use Rattle.index_machine.specs.Permissions.{MayInsertInto}
 use Rattle.index_machine.specs.Rows.{InArray, InBuffer, role, role_key}
@@ -33,16 +35,19 @@ use Rattle.machine_readers.specs.Redirects.{RedirectsLeadToOld}
 use Rattle.machine_readers.specs.Roles.{OnePlaceEach}
 
 opening-redirects : (o : Opening) → RedirectsLeadToOld o []
-opening-redirects o a g k q y s e = let bad = e in cc
+opening-redirects o a g k q y s e = opening_form-redirect o a q y e
 
 opening-one_place_each : (o : Opening) → OnePlaceEach o []
 opening-one_place_each o = record {
-  arrays = λ a b g k e f. let bad = e in cc;
-  rows = λ a b g k e f. let bad = e in cc;
+  arrays = λ a b g k e f.
+      let first = opening_role-array o a g k e in
+      let second = opening_role-array o b g k f in
+      opening_row-one o a b k first.1 second.1 first.2 second.2;
+  rows = λ a b g k e f. opening_role-buffer o a g k e;
 }
 
 opening-no_row : (o : Opening) → (g k q : ℕ) → role o q [] ≢ InBuffer g k
-opening-no_row o g k q e = let bad = e in cc
+opening-no_row o g k q e = opening_role-buffer o q g k e
 
 starts : (o : Opening) → Starts o
 starts o = record {

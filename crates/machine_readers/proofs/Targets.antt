@@ -11,6 +11,7 @@ use Rattle.index_machine.specs.Forms.{copied_away, made_direct}
 use Rattle.index_machine.specs.Groups.{phase, unless_named}
 use Rattle.index_machine.specs.KeyRanges.{group_of, or_else, successor}
 use Rattle.index_machine.specs.Openings.{within}
+use Rattle.index_machine.proofs.OpeningRows.{opening_form-redirect}
 use Rattle.index_machine.specs.Places.{IsInGroup, first_version, form}
 use Rattle.index_machine.specs.Rows.{InArray, Unused, role, role_key}
 use Rattle.index_machine.specs.declared.events.Action.{Action}
@@ -115,7 +116,7 @@ await_step o t b d may leads old a h k p y s e there = ⊎_elim
 
 redirects_await : (o : Opening) → RedirectsLeadToOld o [] → (t : Execution) → Valid o t →
     RedirectsAwait o t
-redirects_await o start [] valid = λ a h k p y s e there. let bad = s in cc
+redirects_await o start [] valid = λ a h k p y s e there. opening_form-redirect o a p y e
 redirects_await o start (e ∷ t) valid =
     await_step o t e.by e.action valid.0 (redirects_lead_to_old o start t valid.1)
     (redirects_await o start t valid.1)
@@ -162,7 +163,7 @@ apart_step o t b d may leads await old a c h i k j p y z s r e f = ⊎_elim
 
 redirects_are_apart : (o : Opening) → RedirectsLeadToOld o [] → (t : Execution) → Valid o t →
     RedirectsAreApart o t
-redirects_are_apart o start [] valid = λ a c h i k j p y z s r e f. let bad = s in cc
+redirects_are_apart o start [] valid = λ a c h i k j p y z s r e f. opening_form-redirect o a p y e
 redirects_are_apart o start (e ∷ t) valid =
     apart_step o t e.by e.action valid.0 (redirects_lead_to_old o start t valid.1)
     (redirects_await o start t valid.1) (redirects_are_apart o start t valid.1)
@@ -245,7 +246,7 @@ targets_step o t b d may leads apart filled left old a g k p y s e = ⊎_elim
 
 pub targets_are_direct : (o : Opening) → RedirectsLeadToOld o [] → (t : Execution) →
     Valid o t → TargetsAreDirect o t
-targets_are_direct o start [] valid = λ a g k p y s e. let bad = s in cc
+targets_are_direct o start [] valid = λ a g k p y s e. opening_form-redirect o a p y e
 targets_are_direct o start (e ∷ t) valid =
     targets_step o t e.by e.action valid.0 (redirects_lead_to_old o start t valid.1)
     (redirects_are_apart o start t valid.1) (places_are_filled o t valid.1)

@@ -15,6 +15,7 @@ use Rattle.index_machine.specs.Forms.{Blank, Copied, Form, Locked, Moved, Redire
 use Rattle.index_machine.specs.Forms.{copied_away, last_version, made_direct, put_value, with_lock}
 use Rattle.index_machine.specs.Forms.{with_value, without_lock}
 use Rattle.index_machine.specs.LivePlaces.{history}
+use Rattle.index_machine.proofs.OpeningRows.{opening_form-keyed}
 use Rattle.index_machine.specs.Places.{first_version, form}
 use Rattle.index_machine.specs.RecordConditions.{MayUnlock}
 use Rattle.index_machine.specs.Rows.{HeldBy, InArray, InBuffer, Role, Unused, role, role_key}
@@ -245,7 +246,9 @@ given_counts o t b d p n gives =
 
 pub counted : (o : Opening) (t : Execution) → Valid o t → (p k : ℕ) →
     role_key (role o p t) ≡ Some k → IsCounted o (changes_at k (history t)) (form o p t)
-counted o [] valid p k e = none_some e
+counted o [] valid p k e =
+    let first = opening_form-keyed o p k e in
+    subst (IsCounted o (changes_at k (history []))) (sym first.1) (first_counts o 0)
 counted o (x ∷ t) valid p k e =
     ⊎_elim
     (λ (z : role_key (role o p t) ≡ Some k).

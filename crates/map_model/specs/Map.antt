@@ -1,6 +1,8 @@
 -- A map is a list of pairs of a key and its value, with rising keys.
 use Rattle.std.specs.Prelude.{◌≡◌, ℕ, ◌<◌, ◌≤◌, List, [], ◌∷◌, length, cond, ◌==◌, ◌&&◌, nat_lt, nat_le, slice_index_or, Some, None, Option, filter}
-use Rattle.std.specs.List.{AllByRecursion}
+use Rattle.std.specs.List.{AllByRecursion, AllByRecursion-prop}
+use mathlib.Core.HLevel.{Unit-prop, ×_prop}
+use Rattle.std.proofs.Props.{props}
 use Rattle.map_model.specs.declared.entries.Change.{Change}
 use Rattle.map_model.specs.declared.entries.Change.TheVariants as change
 
@@ -15,6 +17,12 @@ key_at m i = let pair = slice_index_or m i (0, 0) in pair.0
 abbrev pub IsRising : Map → Type 0
 IsRising [] = Unit {0}
 IsRising (r ∷ rs) = AllByRecursion (λ q. r.0 < q.0) rs × IsRising rs
+
+-- it has one proof at most
+pub IsRising-prop : (m : Map) → IsProp (IsRising m)
+IsRising-prop [] = Unit-prop
+IsRising-prop (r ∷ rs) =
+    ×_prop (AllByRecursion-prop (λ q. r.0 < q.0) (λ q. Prim.hlevel props) rs) (IsRising-prop rs)
 
 -- the value at a key, or none
 unfoldable pub look : Map → ℕ → Option ℕ
