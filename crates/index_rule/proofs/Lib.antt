@@ -16,3 +16,4 @@ pub mod LockWords
 mod RecordSteps
 mod RootSteps
 pub mod RecordStepping
+pub mod RecordReading
