@@ -1,6 +1,6 @@
 -- Records stand where they stood at the opening, as long as nothing is linked or rebuilt.
 use Rattle.std.proofs.Common.{◌≡◌, ◌≢◌, ℕ, Bool, true, false, cond, ◌==◌, Some, None, [], ◌∷◌}
-use Rattle.std.proofs.Common.{refl, sym, ap, ◌∙◌, subst}
+use Rattle.std.proofs.Common.{◌⊎◌, ⊎_elim, Option, refl, sym, ap, ◌∙◌, subst}
 use mathlib.Core.Logic.{dite}
 use native.Mathlib.Decide.{ℕ_discrete}
 use Rattle.index_machine.specs.declared.events.Action.{Action}
@@ -16,12 +16,17 @@ use Rattle.index_machine.specs.Forms.{Form, Blank, Unlocked, Locked, Copied, Red
 use Rattle.index_machine.specs.Forms.{with_lock, with_value, without_lock, form_after}
 use Rattle.index_machine.specs.Groups.{root, root_after, slot, slot_after}
 use Rattle.index_machine.specs.Places.{form}
+use Rattle.index_machine.specs.OpeningRows.{opening_row}
+use Rattle.index_machine.specs.Openings.{first_version, form_of_row}
 use Rattle.index_machine.specs.Rows.{Role, Unused, HeldBy, InArray, InBuffer, role, role_after}
+use Rattle.index_machine.specs.Rows.{opening_role}
+use Rattle.index_machine.proofs.OpeningRows.{opening_role-array, opening_role-buffer, opening_row-one}
+use Rattle.machine_readers.proofs.ReachedForms.{keyed_in_group}
 use Rattle.index_machine.specs.Conditions.{Allowed, Valid}
 use Rattle.index_machine.proofs.Executions.{choice-same, choice-other}
 use Rattle.index_rule.specs.Built.{IsBuilt, AreBuilt}
 use Rattle.index_rule.specs.BuiltLaws.{IsInPlace, NoPlaceForwardsYet, ArraysAreAsOpened}
-use Rattle.index_rule.specs.BuiltLaws.{BuffersAreEmptyYet, RootIsAsOpened}
+use Rattle.index_rule.specs.BuiltLaws.{BuffersAreEmptyYet, KeysHaveOnePlace, RootIsAsOpened}
 
 -- ---- forms ----
 
@@ -69,8 +74,12 @@ form_step first place hand (StoreDirect q from k r w) f built is = absurd built
 form_step first place hand (StoreMoved q) f built is = absurd built
 form_step first place hand d f built is = is
 
+opened : (first : ℕ) (row : Option (ℕ × ℕ)) → IsInPlace (form_of_row first row)
+opened first None = tt
+opened first (Some row) = tt
+
 pub in_place : NoPlaceForwardsYet
-in_place o [] built place = tt
+in_place o [] built place = opened (first_version o) (opening_row o place)
 in_place o (e ∷ t) built place =
     form_step _ place e.by e.action (form o place t) built.0 (in_place o t built.1 place)
 
@@ -143,10 +152,28 @@ buffer_step place by (NewGroup group low high first) r g k built none = absurd b
 buffer_step place by d r g k built none = none
 
 pub buffers_empty : BuffersAreEmptyYet
-buffers_empty o [] built place g k = λ e. let bad = e in cc
+buffers_empty o [] built place g k = λ e. opening_role-buffer o place g k e
 buffers_empty o (e ∷ t) built place g k =
     buffer_step place e.by e.action (role o place t) g k built.0
     (buffers_empty o t built.1 place g k)
+
+-- ---- keys ----
+
+pub one_place : KeysHaveOnePlace
+one_place o t valid built k p q here there =
+    let a = keyed_in_group o t p k here in
+    let b = keyed_in_group o t q k there in
+    let first = opening_role-array o p a.0 k (array a.0 p a.1) in
+    let second = opening_role-array o q b.0 k (array b.0 q b.1) in
+    opening_row-one o p q k _ _ first.2 second.2
+  where
+    array : (g place : ℕ) →
+        (role o place t ≡ InArray g k) ⊎ (role o place t ≡ InBuffer g k) →
+        opening_role o place ≡ InArray g k
+    array g place is =
+        ⊎_elim (λ (z : role o place t ≡ InArray g k).
+        (arrays_as_opened o t valid built g k place).1 z)
+        (λ (z : role o place t ≡ InBuffer g k). absurd (buffers_empty o t built place g k z)) is
 
 -- ---- the root ----
 

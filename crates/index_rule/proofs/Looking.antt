@@ -40,7 +40,7 @@ use Rattle.index_rule.proofs.Steps.{apart_set, is_some, one_opening}
 
 -- the map at the opening has rising keys
 opening-rising : (o : Opening) → IsRising (opening_map o)
-opening-rising o = tt
+opening-rising o = o.rising
 
 history_more : (d : Action) (h : History) →
     (newer : History) × (newer ++ h ≡ history_after d h)
