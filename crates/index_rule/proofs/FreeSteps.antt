@@ -31,8 +31,8 @@ use Rattle.index_machine.proofs.GracePeriods.{unobserved_on, others_push_none}
 use Rattle.index_rule.specs.declared.board.Board.{Board}
 use Rattle.index_rule.specs.declared.hand.Hand.{Hand}
 use Rattle.index_rule.specs.declared.view.View.{View}
-use Rattle.index_rule.specs.Hands.{IsHandOf, known, opening_of}
-use Rattle.index_rule.specs.Rule.{Acts, Kept, Does, number, word_in}
+use Rattle.index_rule.specs.Hands.{IsHandOf, known, opening_of, view}
+use Rattle.index_rule.specs.Rule.{Acts, Follows, Kept, Does, number, word_in}
 use Rattle.index_rule.specs.Steps.{link_load, private_store}
 use Rattle.index_rule.proofs.StepKinds.{loads, stores, exchanges, by_name}
 
@@ -43,8 +43,8 @@ pub held_row : (b : Board) (h : Hand) (place : ℕ) → IsHandOf b h →
     Holds (opening_of b) h.number place (known h) → IsRow (limits (opening_of b)) place
 held_row b h place of held =
     ∥∥₁_elim (h.following (opening_of b) of.opened) (hlevel props)
-    (λ (valid : Valid (opening_of b) (known h)).
-    ((placed (opening_of b) (known h) valid).held h.number place held).0)
+    (λ (follows : Follows (opening_of b) (view h)).
+    ((placed (opening_of b) (known h) follows.valid).held h.number place held).0)
 
 -- and so is one that it observes
 pub observed_row : (b : Board) (h : Hand) (place : ℕ) → IsHandOf b h →
@@ -52,8 +52,8 @@ pub observed_row : (b : Board) (h : Hand) (place : ℕ) → IsHandOf b h →
     IsRow (limits (opening_of b)) place
 observed_row b h place of caller observed =
     ∥∥₁_elim (h.following (opening_of b) of.opened) (hlevel props)
-    (λ (valid : Valid (opening_of b) (known h)).
-    (heads_hold (opening_of b) (known h) valid).row h.number place caller observed)
+    (λ (follows : Follows (opening_of b) (view h)).
+    (heads_hold (opening_of b) (known h) follows.valid).row h.number place caller observed)
 
 module _ (o : Opening) (slots id : ℕ) (me : Me (Unit {0}) View) (c : ℕ)
     (is : me.0.numbers ≡ c ∷ []) (live : me.0.opening ≡ Some o) where
@@ -81,7 +81,7 @@ module _ (o : Opening) (slots id : ℕ) (me : Me (Unit {0}) View) (c : ℕ)
   loads_free a may at =
       subst (λ (z : ℕ). Allows (Kept o) slots id me z (λ n. n) (λ n x. Does me (LoadFree n) x))
       (sym at)
-      (loads o slots id me c is live FreeHead (λ n. LoadFree n) tt (λ _. refl)
+      (loads o slots id me c is live FreeHead (λ n. LoadFree n) tt (λ _. tt) (λ _. refl)
       (λ t _ newer e out. (
         ⊎_elim (λ (reading : IsReading o c me.0.known). inl (still_reading t newer e out reading))
             (λ (keeper : IsKeeper o c). inr keeper) may,
@@ -94,7 +94,7 @@ module _ (o : Opening) (slots id : ℕ) (me : Me (Unit {0}) View) (c : ℕ)
   loads_link place a reading seen row at =
       by_name o slots id me c is live (PlaceWord place Link) a (λ n. n) link_load (inl row) at
       (loads o slots id me c is live (PlaceWord place Link) (λ n. LoadFreeLink place n) (inl row)
-      (λ _. refl)
+      (λ _. tt) (λ _. refl)
       (λ t _ newer e out. (
         still_reading t newer e out reading,
         subst (IsObservedRow place) (sym (still_seen t newer e out)) seen,
@@ -110,8 +110,8 @@ module _ (o : Opening) (slots id : ℕ) (me : Me (Unit {0}) View) (c : ℕ)
       (λ (z : ℕ). Allows (Kept o) slots id me z (λ m. either (m == p) n m)
       (λ m x. Does me (cond (m == p) (PopFree p n) (FailPop p m)) x))
       (sym at)
-      (exchanges o slots id me c is live FreeHead p n (PopFree p n) (λ m. FailPop p m) tt refl
-      (λ _. refl)
+      (exchanges o slots id me c is live FreeHead p n (PopFree p n) (λ m. FailPop p m) tt tt
+      (λ _. tt) refl (λ _. refl)
       (λ t valid newer e out.
       let still = still_reading t newer e out reading in
       let now : observed_head c t ≡ HeadAndLink p n = still_seen t newer e out ∙ seen in
@@ -154,7 +154,7 @@ module _ (o : Opening) (slots id : ℕ) (me : Me (Unit {0}) View) (c : ℕ)
       by_name o slots id me c is live (PlaceWord place part) a (λ _. value)
       (λ w _. private_store w value) (inl row) at
       (stores o slots id me c is live (PlaceWord place part) value (StorePrivate place part value)
-      (inl row) refl
+      (inl row) tt refl
       (λ t valid newer e out. record {
         held = subst (Holds o c place) e
             (holds_on o c place newer me.0.known (subst (Valid o) (sym e) valid) out held);
@@ -171,8 +171,8 @@ module _ (o : Opening) (slots id : ℕ) (me : Me (Unit {0}) View) (c : ℕ)
       (λ (z : ℕ). Allows (Kept o) slots id me z (λ m. either (m == n) p m)
       (λ m x. Does me (cond (m == n) (PushFree p n) (FailPush p n m)) x))
       (sym at)
-      (exchanges o slots id me c is live FreeHead n p (PushFree p n) (λ m. FailPush p n m) tt refl
-      (λ _. refl)
+      (exchanges o slots id me c is live FreeHead n p (PushFree p n) (λ m. FailPush p n m) tt tt
+      (λ _. tt) refl (λ _. refl)
       (λ t valid newer e out.
       let before : Valid o (newer ++ me.0.known) = subst (Valid o) (sym e) valid in
       let now : Holds o c p t =
@@ -206,7 +206,7 @@ pub loaded_row : (o : Opening) (v : View) (n : ℕ) (w : View) → v.opening ≡
     Acts v (LoadFree n) w → n ≢ 0 → IsRow (limits o) n
 loaded_row o v n w of acted some =
     let valid : Valid o (event (number v) (LoadFree n) ∷ acted.0 ++ v.known) =
-    subst (Valid o) (ap (λ (z : View). z.known) acted.1) (acted.3 o of)
+    subst (Valid o) (ap (λ (z : View). z.known) acted.1) (acted.3 o of).valid
     in
     let found : word o (acted.0 ++ v.known) FreeHead ≡ n = valid.0.1 in
     subst (IsRow (limits o)) found

@@ -1,3 +1,4 @@
+pub mod Logging
 pub mod Steps
 pub mod Seats
 pub mod Opens

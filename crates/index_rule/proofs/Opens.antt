@@ -50,6 +50,7 @@ opens o words stands =
     record {
       execution = [];
       valid = tt;
+      built = tt;
       words = stands;
       apart = λ i j c v w p q _ _.
           (only (first_view o) v i p).0 ∙ sym (only (first_view o) w j q).0;
@@ -60,6 +61,7 @@ opens o words stands =
         own_heard = tt;
         once = once_counting 0 n;
         hands = λ c h. let r = in_counting c 0 n h in let b = r.1 in omega arith;
+        logged = λ c one. record { stand = tt; ordered = tt; complete = refl };
       });
     }
 
@@ -95,7 +97,13 @@ are_push b c (g ∷ hs) h k of number is = (
 )
 
 pub new_following : (o : Opening) (c : ℕ) (v : View) → v ≡ new_hand o c → IsFollowing v
-new_following o c v is = subst IsFollowing (sym is) (λ p of. merely tt)
+new_following o c v is =
+    subst IsFollowing (sym is)
+    (λ p of. merely (record {
+      valid = tt;
+      built = tt;
+      logged = λ hand one. record { stand = tt; ordered = tt; complete = refl };
+    }))
 
 pub new_crossings : (o : Opening) (c : ℕ) (v : View) → v ≡ new_hand o c →
     0 ≡ crossings c v.known % 2 ^ 64

@@ -13,9 +13,16 @@ use Rattle.index_machine.specs.Lists.{In, AreDistinct}
 use Rattle.index_machine.specs.Rows.{below_top}
 use Rattle.index_rule.specs.declared.view.View.{View}
 use Rattle.index_rule.specs.declared.view.Heard.{Heard}
-use Rattle.index_rule.specs.Rule.{Owns, AreOwn, Knows, AreApart, Kept}
-use Rattle.index_rule.specs.Seats.{others_left, one_hand, only_first, longer, joined, spent}
+use Rattle.index_machine.specs.Openings.{opening_map}
+use Rattle.index_machine.specs.LivePlaces.{history}
+use Rattle.index_machine.specs.Conditions.{Valid}
+use Rattle.index_machine.proofs.Executions.{valid_before}
+use Rattle.map_model.specs.Logs.{Log, IsLogOf}
+use Rattle.index_rule.specs.Rule.{Owns, AreOwn, Knows, AreApart, Kept, HasLog}
+use Rattle.index_rule.specs.Seats.{others_left, one_hand, only_first, longer, joined, joined_log}
+use Rattle.index_rule.specs.Seats.{spent}
 use Rattle.index_rule.proofs.Steps.{apart_set, is_some}
+use Rattle.index_rule.proofs.Logging.{log_on}
 
 at_end : (l : List View) (a b : View) (j : ℕ) → get_elem? (l ++ a ∷ []) j ≡ some b →
     (get_elem? l j ≡ some b) ⊎ ((j ≡ length l) × (a ≡ b))
@@ -31,7 +38,14 @@ at_end (x ∷ xs) a b (suc j) e =
 none_heard : (v : View) (numbers : List ℕ) → v.heard ≡ [] → AreOwn v.heard numbers
 none_heard v numbers none = subst (λ (z : List Heard). AreOwn z numbers) (sym none) tt
 
--- some of the seat's numbers go to a new seat; the seat has heard nothing yet
+-- before the first step there is no call to log
+no_calls : (o : Opening) (c : ℕ) (known : Execution) (log : Log) → known ≡ [] → log ≡ [] →
+    IsLogOf (opening_map o) c (history known) log
+no_calls o c known log fresh blank =
+    subst (λ (z : Execution × Log). IsLogOf (opening_map o) c (history z.0) z.1)
+    (λ i. (sym fresh i, sym blank i)) (record { stand = tt; ordered = tt; complete = refl })
+
+-- some of the seat's numbers go to a new seat; the seat has made no step and heard nothing yet
 module _ (o : Opening) (id : ℕ) (v : View) (ls rs : List ℕ)
     (left : (hand : ℕ) → In hand ls → Owns v hand) (right : (hand : ℕ) → In hand rs → Owns v hand)
     (apart : AreDistinct v.numbers → (hand : ℕ) → In hand ls → In hand rs → ⊥)
@@ -69,9 +83,10 @@ module _ (o : Opening) (id : ℕ) (v : View) (ls rs : List ℕ)
           b.0 (old i id c x v b.1 at ox (right c r)))
           (at_set views id i one x a)
 
-  part : (t : Execution) (ns : List ℕ) → v.heard ≡ [] → ((hand : ℕ) → In hand ns → Owns v hand) →
-      AreDistinct ns → Knows o t v → Knows o t (record v { numbers = ns })
-  part t ns none sub un k =
+  part : (t : Execution) (ns : List ℕ) → v.heard ≡ [] → v.known ≡ [] → v.log ≡ [] →
+      ((hand : ℕ) → In hand ns → Owns v hand) → AreDistinct ns → Knows o t v →
+      Knows o t (record v { numbers = ns })
+  part t ns none fresh blank sub un k =
       record {
         opening = k.opening;
         goes_on = (k.goes_on.0, k.goes_on.1, λ c h. k.goes_on.2 c (sub c h));
@@ -79,34 +94,36 @@ module _ (o : Opening) (id : ℕ) (v : View) (ls rs : List ℕ)
         own_heard = none_heard v ns none;
         once = un;
         hands = λ c h. k.hands c (sub c h);
+        logged = λ c one. no_calls o c v.known v.log fresh blank;
       }
 
-  pub splits : v.opening ≡ Some o → v.heard ≡ [] →
+  pub splits : v.opening ≡ Some o → v.heard ≡ [] → v.known ≡ [] → v.log ≡ [] →
       Splits (Kept o) id v (record v { numbers = ls }) (record v { numbers = rs })
   unfolding one two
-  splits of none s r at =
+  splits of none fresh blank s r at =
       let k = r.known id v at (is_some v.opening o of) in
       let un = once k.once in
       record {
         execution = r.execution;
         valid = r.valid;
+        built = r.built;
         words = r.words;
         apart = apart_split s.views k.once r.apart at;
         known = λ i u p q. ⊎_elim
             (λ (a : get_elem? (set s.views id one) i ≡ some u). ⊎_elim
             (λ (b : (i ≡ id) × (one ≡ u)).
-            subst (Knows o r.execution) b.1 (part r.execution ls none left un.0 k))
+            subst (Knows o r.execution) b.1 (part r.execution ls none fresh blank left un.0 k))
             (λ (b : (i ≢ id) × (get_elem? s.views i ≡ some u)). r.known i u b.1 q)
             (at_set s.views id i one u a))
             (λ (a : (i ≡ length (set s.views id one)) × (two ≡ u)).
-            subst (Knows o r.execution) a.1 (part r.execution rs none right un.1 k))
+            subst (Knows o r.execution) a.1 (part r.execution rs none fresh blank right un.1 k))
             (at_end (set s.views id one) two u i p);
       }
 
 -- the first of the numbers becomes a hand
 pub makes_hand : (o : Opening) (id : ℕ) (v : View) → v.opening ≡ Some o → v.heard ≡ [] →
-    Splits (Kept o) id v (others_left v) (one_hand v)
-makes_hand o id v of none = cut v.numbers refl
+    v.known ≡ [] → v.log ≡ [] → Splits (Kept o) id v (others_left v) (one_hand v)
+makes_hand o id v of none fresh blank = cut v.numbers refl
   where
     back : (ns : List ℕ) → v.numbers ≡ ns →
         Splits (Kept o) id v (record v { numbers = below_top ns })
@@ -120,7 +137,7 @@ makes_hand o id v of none = cut v.numbers refl
     cut [] e =
         back [] e
         (splits o id v [] [] (λ c h. absurd h) (λ c h. absurd h) (λ _ c h _. h) (λ _. (tt, tt))
-        of none)
+        of none fresh blank)
     cut (c ∷ cs) e =
         back (c ∷ cs) e
         (splits o id v cs (c ∷ [])
@@ -129,7 +146,7 @@ makes_hand o id v of none = cut v.numbers refl
         (λ un d h k. let u : AreDistinct (c ∷ cs) = subst AreDistinct e un in
         u.0 (subst (λ (z : ℕ). In z cs) (⊎_elim (λ (z : d ≡ c). z) (λ z. absurd z) k) h))
         (λ un. let u : AreDistinct (c ∷ cs) = subst AreDistinct e un in (u.1, ((λ z. z), tt)))
-        of none)
+        of none fresh blank)
 
 -- ---- two beginnings of one execution ----
 
@@ -230,10 +247,99 @@ are_own_in [] ns ms sub own = tt
 are_own_in (h ∷ hs) ns ms sub own =
     ((λ c is. sub c (own.0 c is)), are_own_in hs ns ms sub own.1)
 
+without_after : (c : ℕ) (n m : Execution) → Without c (n ++ m) → Without c m
+without_after c [] m out = out
+without_after c (e ∷ n) m out = without_after c n m out.1
+
+-- the longer of two beginnings goes on from each of them, without events of any hand that made none
+-- after it
+pub begins_longer : (n m v w t : Execution) → n ++ v ≡ t → m ++ w ≡ t →
+    ((mid : Execution) × (mid ++ v ≡ longer v w)
+    × ((hand : ℕ) → Without hand n → Without hand mid))
+    × ((mid : Execution) × (mid ++ w ≡ longer v w)
+    × ((hand : ℕ) → Without hand m → Without hand mid))
+begins_longer n m v w t en em =
+    ⊎_elim
+    (λ (h : (mid : Execution) × (v ≡ mid ++ w) × (m ≡ n ++ mid)).
+    let long = length-append h.0 w in
+    let same : length v ≡ length (h.0 ++ w) = ap (λ (z : Execution). length z) h.1 in
+    let first : longer v w ≡ v = longer_first v w (omega arith) in (
+      ([], sym first, λ c out. tt),
+      (
+        h.0,
+        sym h.1 ∙ sym first,
+        λ c out. without_after c n h.0 (subst (Without c) h.2 out),
+      ),
+    ))
+    (λ (h : (mid : Execution) × (w ≡ mid ++ v) × (n ≡ m ++ mid)). second h.0 h.1 h.2)
+    (one_begins n m v w (en ∙ sym em))
+  where
+    second : (mid : Execution) → w ≡ mid ++ v → n ≡ m ++ mid →
+        ((mid : Execution) × (mid ++ v ≡ longer v w)
+        × ((hand : ℕ) → Without hand n → Without hand mid))
+        × ((mid : Execution) × (mid ++ w ≡ longer v w)
+        × ((hand : ℕ) → Without hand m → Without hand mid))
+    second [] e f =
+        let same : length w ≡ length v = ap (λ (z : Execution). length z) e in
+        let first : longer v w ≡ v = longer_first v w (omega arith) in
+        (([], sym first, λ c out. tt), ([], e ∙ sym first, λ c out. tt))
+    second (x ∷ mid) e f =
+        let long = length-append (x ∷ mid) v in
+        let same : length w ≡ length (x ∷ mid ++ v) = ap (λ (z : Execution). length z) e in
+        let other : longer v w ≡ w = longer_second v w (omega arith) in (
+          (
+            x ∷ mid,
+            sym e ∙ sym other,
+            λ c out. without_after c m (x ∷ mid) (subst (Without c) f out),
+          ),
+          ([], sym other, λ c out. tt),
+        )
+
+-- the numbers of two seats that are one hand, the first of them being one
+front_is : (n c : ℕ) (ns ws : List ℕ) → n ∷ ns ++ ws ≡ c ∷ [] → n ∷ ns ≡ c ∷ []
+front_is n c [] ws e = let same : n ≡ c = cc in λ i. same i ∷ []
+front_is n c (x ∷ ns) ws e = absurd (let bad = e in cc)
+
+-- the log of a seat, by a longer beginning
+log_longer : (o : Opening) (c : ℕ) (mid known whole t : Execution) (log : Log) → Valid o t →
+    ((newer : Execution) × (newer ++ whole ≡ t)) → mid ++ known ≡ whole → Without c mid →
+    IsLogOf (opening_map o) c (history known) log → IsLogOf (opening_map o) c (history whole) log
+log_longer o c mid known whole t log valid begins e out old =
+    subst (λ (z : Execution). IsLogOf (opening_map o) c (history z) log) e
+    (log_on o c mid known log
+    (subst (Valid o) (sym e)
+    (valid_before o begins.0 whole (subst (Valid o) (sym begins.1) valid)))
+    out old)
+
+-- the log of the one hand that two seats are
+joined_logged : (o : Opening) (t : Execution) (v w : View) → Valid o t → Knows o t v →
+    Knows o t w → HasLog o (joined v w)
+joined_logged o t v w valid k g c one =
+    by_numbers v.numbers refl one
+    (shared k.goes_on.0 g.goes_on.0 v.known w.known t k.goes_on.1 g.goes_on.1)
+    (begins_longer k.goes_on.0 g.goes_on.0 v.known w.known t k.goes_on.1 g.goes_on.1)
+  where
+    by_numbers : (ns : List ℕ) → v.numbers ≡ ns → ns ++ w.numbers ≡ c ∷ [] →
+        ((newer : Execution) × (newer ++ longer v.known w.known ≡ t)
+        × ((hand : ℕ) → Without hand k.goes_on.0 → Without hand newer)
+        × ((hand : ℕ) → Without hand g.goes_on.0 → Without hand newer)) →
+        ((mid : Execution) × (mid ++ v.known ≡ longer v.known w.known)
+        × ((hand : ℕ) → Without hand k.goes_on.0 → Without hand mid))
+        × ((mid : Execution) × (mid ++ w.known ≡ longer v.known w.known)
+        × ((hand : ℕ) → Without hand g.goes_on.0 → Without hand mid)) →
+        IsLogOf (opening_map o) c (history (longer v.known w.known)) (joined_log ns v.log w.log)
+    by_numbers [] e f two go =
+        log_longer o c go.1.0 w.known (longer v.known w.known) t w.log valid (two.0, two.1)
+        go.1.1 (go.1.2 c (g.goes_on.2 c (subst (In c) (sym f) (inl refl)))) (g.logged c f)
+    by_numbers (n ∷ ns) e f two go =
+        let mine : v.numbers ≡ c ∷ [] = e ∙ front_is n c ns w.numbers f in
+        log_longer o c go.0.0 v.known (longer v.known w.known) t v.log valid (two.0, two.1)
+        go.0.1 (go.0.2 c (k.goes_on.2 c (subst (In c) (sym mine) (inl refl)))) (k.logged c mine)
+
 -- what a seat knows that took in another
-joined_knows : (o : Opening) (t : Execution) (v w : View) → Knows o t v → Knows o t w →
-    ((c : ℕ) → Owns v c → Owns w c → ⊥) → Knows o t (joined v w)
-joined_knows o t v w k g none =
+joined_knows : (o : Opening) (t : Execution) (v w : View) → Valid o t → Knows o t v →
+    Knows o t w → ((c : ℕ) → Owns v c → Owns w c → ⊥) → Knows o t (joined v w)
+joined_knows o t v w valid k g none =
     let two = shared k.goes_on.0 g.goes_on.0 v.known w.known t k.goes_on.1 g.goes_on.1 in
     record {
       opening = k.opening;
@@ -254,6 +360,7 @@ joined_knows o t v w k g none =
       );
       once = once_both v.numbers w.numbers k.once g.once none;
       hands = λ c h. ⊎_elim (k.hands c) (g.hands c) (in_either c v.numbers w.numbers h);
+      logged = joined_logged o t v w valid k g;
     }
 
 -- the seat takes in another
@@ -270,7 +377,7 @@ joins o id other v w of og s r at apart there0 =
     λ c h. in_either c v.numbers w.numbers h
     in
     let mine : Knows o r.execution x =
-    joined_knows o r.execution v w k g (λ c a b. apart (r.apart other id c w v there at b a))
+    joined_knows o r.execution v w r.valid k g (λ c a b. apart (r.apart other id c w v there at b a))
     in
     let views : List View = set (set s.views id x) other spent in
     let cases : (i : ℕ) (u : View) → get_elem? views i ≡ some u →
@@ -291,6 +398,7 @@ joins o id other v w of og s r at apart there0 =
     record {
       execution = r.execution;
       valid = r.valid;
+      built = r.built;
       words = r.words;
       apart = λ i j c u y p q ou oy. ⊎_elim
           (λ (a : spent ≡ u). absurd (subst (λ (z : View). Owns z c) (sym a) ou))

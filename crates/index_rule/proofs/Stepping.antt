@@ -26,8 +26,9 @@ use Rattle.index_machine.proofs.Placing.{holds_on, holds_popped, unused-held}
 use Rattle.index_rule.specs.declared.board.Board.{Board}
 use Rattle.index_rule.specs.declared.hand.Hand.{Hand}
 use Rattle.index_rule.specs.declared.view.View.{View}
-use Rattle.index_rule.specs.Hands.{IsHandOf, Makes, known, opening_of}
-use Rattle.index_rule.specs.Rule.{first_of}
+use Rattle.index_rule.specs.Hands.{IsHandOf, Makes, known, opening_of, view}
+use Rattle.index_rule.specs.Built.{AreBuilt}
+use Rattle.index_rule.specs.Rule.{first_of, HasLog}
 
 -- an action by which no hand enters or leaves
 abbrev pub IsNoCrossing : Action → Type 0
@@ -51,10 +52,16 @@ module _ (b : Board) (h k : Hand) (action : Action) (of : IsHandOf b h)
   continues = (event h.number action ∷ m.acts.0, sym known_is)
 
   pub valid_after : Valid (opening_of b) (event h.number action ∷ m.acts.0 ++ known h)
-  valid_after = subst (Valid (opening_of b)) known_is (m.acts.3 (opening_of b) of.opened)
+  valid_after = subst (Valid (opening_of b)) known_is (m.acts.3 (opening_of b) of.opened).valid
 
   pub valid_known : Valid (opening_of b) (known k)
-  valid_known = m.acts.3 (opening_of b) of.opened
+  valid_known = (m.acts.3 (opening_of b) of.opened).valid
+
+  pub built_known : AreBuilt (known k)
+  built_known = (m.acts.3 (opening_of b) of.opened).built
+
+  pub has_log : HasLog (opening_of b) (view k)
+  has_log = (m.acts.3 (opening_of b) of.opened).logged
 
   -- ---- its read section ----
 

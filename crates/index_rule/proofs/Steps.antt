@@ -23,7 +23,13 @@ use Rattle.index_machine.proofs.Executions.{crossings_on}
 use Rattle.index_rule.specs.declared.view.View.{View}
 use Rattle.index_rule.specs.declared.view.Heard.{Heard}
 use Rattle.index_rule.specs.Rule.{Owns, GoesOn, GoesOnFromAll, AreOwn, Knows, StandsFor, AreApart}
-use Rattle.index_rule.specs.Rule.{Kept, Acts, Does, number, first_of, stepped}
+use Rattle.index_rule.specs.Rule.{Kept, Acts, Does, number, first_of, stepped, HasLog, Follows}
+use Rattle.index_rule.specs.Rule.{log_after, logged}
+use Rattle.index_rule.specs.Built.{IsBuilt, AreBuilt}
+use Rattle.index_rule.proofs.Logging.{log_on, log_more}
+use Rattle.map_model.specs.Logs.{Log, IsLogOf}
+use Rattle.index_machine.specs.Openings.{opening_map}
+use Rattle.index_machine.specs.LivePlaces.{history}
 
 -- ---- the seats ----
 
@@ -100,24 +106,24 @@ stands_more o words t c d w x is_word old stores =
 
 -- ---- any step ----
 
--- what a step at the word w owes, whatever the execution is by then: its condition, and that its
--- event stores this
+-- what a step at the word w owes, whatever the execution is by then: its condition, a kind that is
+-- built, and that its event stores this
 abbrev pub Owes : Opening → ℕ → View → Word → (ℕ → ℕ) → (ℕ → Action) → Type 0
 Owes o c v w f d =
     (t : Execution) → Valid o t → (newer : Execution) → newer ++ v.known ≡ t → Without c newer →
     let n : ℕ = word o t w in
-    Allowed o t c (d n)
+    Allowed o t c (d n) × IsBuilt (d n)
     × ((u : Word) →
     stored (store_of c (d n)) u (word o t u) ≡ cond (same_word w u) (f n) (word o t u))
 
 -- the views after a step
 known_set : (o : Opening) (t : Execution) (d : Action) (views : List View) (id : ℕ) (v w : View)
-    (c : ℕ) → Owns v c → AreApart views → get_elem? views id ≡ some v → Knows o t v →
-    w ≡ record v { known = event c d ∷ t; heard = [] } →
+    (c : ℕ) (log : Log) → Owns v c → AreApart views → get_elem? views id ≡ some v → Knows o t v →
+    w ≡ record v { known = event c d ∷ t; heard = []; log = log } → HasLog o w →
     ((i : ℕ) (u : View) → get_elem? views i ≡ some u → u.opening ≢ None → Knows o t u) →
     (i : ℕ) (u : View) → get_elem? (set views id w) i ≡ some u → u.opening ≢ None →
     Knows o (event c d ∷ t) u
-known_set o t d views id v w c mine apart at k is known i u p q =
+known_set o t d views id v w c log mine apart at k is has known i u p q =
     ⊎_elim
     (λ (a : (i ≡ id) × (w ≡ u)). subst (Knows o (event c d ∷ t)) (sym is ∙ a.1) (record {
       opening = k.opening;
@@ -126,6 +132,7 @@ known_set o t d views id v w c mine apart at k is known i u p q =
       own_heard = tt;
       once = k.once;
       hands = k.hands;
+      logged = subst (HasLog o) is has;
     }))
     (λ (a : (i ≢ id) × (get_elem? views i ≡ some u)).
     let h = known i u a.1 q in
@@ -139,8 +146,32 @@ known_set o t d views id v w c mine apart at k is known i u p q =
       own_heard = h.own_heard;
       once = h.once;
       hands = h.hands;
+      logged = h.logged;
     })
     (at_set views id i w u p)
+
+-- the hand's log, after a step of its own
+steps_log : (o : Opening) (v : View) (c : ℕ) (d : Action) (newer t : Execution) →
+    v.opening ≡ Some o → v.numbers ≡ c ∷ [] → newer ++ v.known ≡ t →
+    event (number v) d ∷ newer ++ v.known ≡ event c d ∷ t → HasLog o v → Allowed o t c d →
+    Valid o t → Without c newer → HasLog o (stepped v d newer)
+steps_log o v c d newer t live is whole named old may valid out hand one =
+    let same : c ≡ hand = ap first_of (sym is ∙ one) in
+    let before : IsLogOf (opening_map o) c (history t) v.log =
+    subst (λ (z : Execution). IsLogOf (opening_map o) c (history z) v.log) whole
+    (log_on o c newer v.known v.log (subst (Valid o) (sym whole) valid) out (old c is))
+    in
+    let after : IsLogOf (opening_map o) c (history (event c d ∷ t)) (log_after o t d v.log) =
+    log_more o t c d v.log may before
+    in
+    let here : log_after o t d v.log ≡ logged v.opening (newer ++ v.known) d v.log =
+    ap (λ (z : Execution). log_after o z d v.log) (sym whole)
+    ∙ ap (λ z. logged z (newer ++ v.known) d v.log) (sym live)
+    in
+    subst (λ (z : Execution × Log). IsLogOf (opening_map o) hand (history z.0) z.1)
+    (λ i. (sym named i, here i))
+    (subst (λ (z : ℕ). IsLogOf (opening_map o) z (history (event c d ∷ t)) (log_after o t d v.log))
+    same after)
 
 -- how often the hand crossed, after a step of its own
 pub crossings_stepped : (v : View) (d : Action) (newer : Execution) (c : ℕ) →
@@ -181,27 +212,33 @@ acts o slots id me c w f d is_word is live owes s r _ at _ =
     }
     × Acts v (d n) (stepped v (d n) newer)
     in
+    let after : View = stepped v here newer in
+    let has : HasLog o after = steps_log o v c here newer t live is whole named k.logged own.0 r.valid out in
     let kept : Kept o record {
       words = slice_set s.words a (f (word o t w));
       homes = s.homes;
-      views = set s.views id (stepped v here newer);
+      views = set s.views id after;
     } =
     record {
       execution = event c here ∷ t;
       valid = longer;
-      words = stands_more o s.words t c here w (f (word o t w)) is_word r.words own.1;
-      apart = apart_set s.views id v (stepped v here newer) r.apart at (λ _ h. h);
-      known = known_set o t here s.views id v (stepped v here newer) c mine r.apart at k
-          (ap (λ (z : Execution). record v { known = z; heard = [] }) named) r.known;
+      built = (own.1, r.built);
+      words = stands_more o s.words t c here w (f (word o t w)) is_word r.words own.2;
+      apart = apart_set s.views id v after r.apart at (λ _ h. h);
+      known = known_set o t here s.views id v after c after.log mine r.apart at k
+          (ap (λ (z : Execution). record v { known = z; heard = []; log = after.log }) named) has
+          r.known;
     }
     in
     let tells : Acts v here (stepped v here newer) = (
       newer,
       refl,
       subst (λ (z : ℕ). Without z newer) (sym me_is) out,
-      λ p of. subst (λ (z : Opening). Valid z (event (number v) here ∷ newer ++ v.known))
-          (one_opening o p (sym live ∙ of))
-          (subst (Valid o) (sym named) longer),
+      λ p of. subst (λ (z : Opening). Follows z after) (one_opening o p (sym live ∙ of)) (record {
+        valid = subst (Valid o) (sym named) longer;
+        built = subst AreBuilt (sym named) (own.1, r.built);
+        logged = has;
+      }),
     )
     in
     let all : Goal (slice_index s.words a) = subst Goal (sym found) (kept, tells) in

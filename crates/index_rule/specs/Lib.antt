@@ -1,3 +1,4 @@
+pub mod Built
 pub mod Rule
 pub mod Steps
 pub mod Hands

@@ -1,5 +1,5 @@
 -- The rule of the table: some valid execution leaves its words, and each seat knows a beginning of
--- it in which all events of its hands stand.
+-- it in which all events of its hands stand. A seat that is one hand has the log of its calls.
 use Rattle.std.specs.Prelude.{◌≡◌, ◌≢◌, true, ℕ, zero, suc, ◌+◌, Some, None, Option, List, [], ◌∷◌}
 use Rattle.std.specs.Prelude.{◌++◌, length}
 use mathlib.Core.Option.{some}
@@ -8,13 +8,20 @@ use Rattle.atomic_table.specs.Table.{State, Me}
 use Rattle.word_layout.specs.Limits.{word_count}
 use Rattle.word_layout.specs.Words.{Word, FreeHead, IsWord, word_named}
 use Rattle.word_layout.specs.WordAt.{word_at}
+use Rattle.map_model.specs.declared.entries.Entry.TheVariants.{Made}
+use Rattle.map_model.specs.Map.{key_of}
+use Rattle.map_model.specs.Logs.{Log, IsLogOf}
 use Rattle.index_machine.specs.declared.events.Action.{Action}
+use Rattle.index_machine.specs.declared.events.Action.TheVariants.{Unlock, LinkRow}
 use Rattle.index_machine.specs.declared.opening.Opening.{Opening}
 use Rattle.index_machine.specs.Execution.{Execution, event, Without}
 use Rattle.index_machine.specs.Lists.{In, AreDistinct}
 use Rattle.index_machine.specs.Words.{limits, word}
 use Rattle.index_machine.specs.Sections.{IsHand, crossings, crossings_after}
+use Rattle.index_machine.specs.Openings.{opening_map}
+use Rattle.index_machine.specs.LivePlaces.{history, value_in_map}
 use Rattle.index_machine.specs.Conditions.{Valid}
+use Rattle.index_rule.specs.Built.{AreBuilt}
 use Rattle.index_rule.specs.declared.view.View.{View}
 use Rattle.index_rule.specs.declared.view.Heard.{Heard}
 
@@ -39,6 +46,11 @@ abbrev pub AreOwn : List Heard → List ℕ → Type 0
 AreOwn [] numbers = Unit {0}
 AreOwn (h ∷ hs) numbers = ((hand : ℕ) → In hand h.numbers → In hand numbers) × AreOwn hs numbers
 
+-- a seat that is one hand has the log of its calls, in what it knows
+abbrev pub HasLog : Opening → View → Type 0
+HasLog o v =
+    (hand : ℕ) → v.numbers ≡ hand ∷ [] → IsLogOf (opening_map o) hand (history v.known) v.log
+
 -- the seat knows a beginning of the execution
 pub record Knows (o : Opening) (t : Execution) (v : View) : Type 0 where
   pub opening : v.opening ≡ Some o
@@ -47,6 +59,7 @@ pub record Knows (o : Opening) (t : Execution) (v : View) : Type 0 where
   pub own_heard : AreOwn v.heard v.numbers
   pub once : AreDistinct v.numbers
   pub hands : (hand : ℕ) → Owns v hand → IsHand o hand
+  pub logged : HasLog o v
 
 -- ---- the rule ----
 
@@ -65,6 +78,7 @@ AreApart views =
 pub record Kept (o : Opening) (s : State (Unit {0}) View) : Type 0 where
   pub execution : Execution
   pub valid : Valid o execution
+  pub built : AreBuilt execution
   pub words : StandsFor o s.words execution
   pub apart : AreApart s.views
   pub known : (id : ℕ) (v : View) → get_elem? s.views id ≡ some v → v.opening ≢ None →
@@ -83,9 +97,24 @@ first_view o =
       opening = Some o;
       known = [];
       heard = [];
+      log = [];
     }
 
 -- ---- a step ----
+
+-- the log after an action of the hand, made after this execution: a change is an entry, at the end
+-- of the history
+abbrev pub log_after : Opening → Execution → Action → Log → Log
+log_after o t (Unlock place removed change stored) log =
+    Made (length (history t)) change (value_in_map o (key_of change) t) ∷ log
+log_after o t (LinkRow group place change before next) log =
+    Made (length (history t)) change (value_in_map o (key_of change) t) ∷ log
+log_after o t _ log = log
+
+-- likewise, of a table that was opened so
+abbrev pub logged : Option Opening → Execution → Action → Log → Log
+logged None t action log = log
+logged (Some o) t action log = log_after o t action log
 
 -- the first of the numbers
 abbrev pub first_of : List ℕ → ℕ
@@ -108,17 +137,28 @@ word_in v address = word_of_opening v.opening address
 -- the view of a hand that has made this action after these events of others
 abbrev pub stepped : View → Action → Execution → View
 stepped v action newer =
-    record v { known = event (number v) action ∷ newer ++ v.known; heard = [] }
+    record v {
+      known = event (number v) action ∷ newer ++ v.known;
+      heard = [];
+      log = logged v.opening (newer ++ v.known) action v.log;
+    }
 
--- the hand made this action, after events of others, and knows a valid execution
+-- what the seat knows is a valid execution of the kinds that are built, and its log is that of its
+-- hand
+pub record Follows (o : Opening) (v : View) : Type 0 where
+  pub valid : Valid o v.known
+  pub built : AreBuilt v.known
+  pub logged : HasLog o v
+
+-- the hand made this action, after events of others, and follows the table
 abbrev pub Acts : View → Action → View → Type 0
 Acts v action w =
     (newer : Execution) × (w ≡ stepped v action newer) × Without (number v) newer
-    × ((o : Opening) → v.opening ≡ Some o → Valid o w.known)
+    × ((o : Opening) → v.opening ≡ Some o → Follows o w)
 
--- what the seat knows is a valid execution of its table
+-- the seat follows its table
 abbrev pub IsFollowing : View → Type 0
-IsFollowing v = (o : Opening) → v.opening ≡ Some o → ∥ Valid o v.known ∥₁
+IsFollowing v = (o : Opening) → v.opening ≡ Some o → ∥ Follows o v ∥₁
 
 -- what a step tells its hand
 pub record Does (m : Me (Unit {0}) View) (action : Action) (x : Me (Unit {0}) View) : Type 0 where

@@ -1,5 +1,6 @@
 -- How a seat is cut in two, and how two are joined.
 use Rattle.std.specs.Prelude.{ℕ, cond, nat_lt, Some, None, List, [], ◌∷◌, ◌++◌, length}
+use Rattle.map_model.specs.Logs.{Log}
 use Rattle.index_machine.specs.declared.opening.Opening.{Opening}
 use Rattle.index_machine.specs.Execution.{Execution}
 use Rattle.index_machine.specs.Rows.{below_top}
@@ -24,11 +25,13 @@ one_hand v = record v { numbers = only_first v.numbers }
 
 -- the hand with this number, before its first step
 abbrev pub new_hand : Opening → ℕ → View
-new_hand o hand = record { numbers = hand ∷ []; opening = Some o; known = []; heard = [] }
+new_hand o hand =
+    record { numbers = hand ∷ []; opening = Some o; known = []; heard = []; log = [] }
 
 -- the seat that still is so many hands, from a number on
 abbrev pub rest_of : Opening → ℕ → ℕ → View
-rest_of o hand n = record { numbers = counting hand n; opening = Some o; known = []; heard = [] }
+rest_of o hand n =
+    record { numbers = counting hand n; opening = Some o; known = []; heard = []; log = [] }
 
 -- ---- joining ----
 
@@ -38,7 +41,12 @@ longer t u = cond (nat_lt (length t) (length u)) u t
 
 -- what a seat knows, for one that it is joined with
 abbrev pub heard_of : View → Heard
-heard_of v = record { numbers = v.numbers; known = v.known }
+heard_of v = record { numbers = v.numbers; known = v.known; log = v.log }
+
+-- the log of the first of two seats, or where this is no hand, that of the other
+abbrev pub joined_log : List ℕ → Log → Log → Log
+joined_log [] log other = other
+joined_log (hand ∷ hands) log other = log
 
 -- the seat that takes in another
 abbrev pub joined : View → View → View
@@ -47,8 +55,9 @@ joined v w =
       numbers = v.numbers ++ w.numbers;
       known = longer v.known w.known;
       heard = heard_of w ∷ heard_of v ∷ v.heard;
+      log = joined_log v.numbers v.log w.log;
     }
 
 -- a seat that was taken in by another
 abbrev pub spent : View
-spent = record { numbers = []; opening = None; known = []; heard = [] }
+spent = record { numbers = []; opening = None; known = []; heard = []; log = [] }

@@ -3,3 +3,4 @@ pub mod Places
 pub mod Makings
 pub mod Answering
 pub mod Histories
+pub mod Logging

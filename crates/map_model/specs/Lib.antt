@@ -5,3 +5,5 @@ pub mod PlainMap
 pub mod Fitting
 pub mod Laws
 pub mod History
+pub mod Logs
+pub mod LogLaws

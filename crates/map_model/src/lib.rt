@@ -14,5 +14,8 @@ mod plain_map;
 pub use answerer::Answerer;
 pub use calls::{Answer, Call, Near, Value};
 pub use entries::{Change, Entry};
-pub use laws::a_call_of_one_key_has_one_answer;
+pub use laws::{
+    a_call_of_one_key_has_one_answer, changes_end_logs, logs_end_in_the_history, looks_end_logs,
+    others_keep_logs,
+};
 pub use plain_map::{NoRoom, PlainMap};

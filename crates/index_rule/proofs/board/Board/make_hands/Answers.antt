@@ -35,7 +35,8 @@ split_seat-one-requires c =
       i.table,
       search rules,
       makes_hand (opening_of c.args.self.now) s.id s.me.0
-          (ap (λ (z : View). z.opening) i.seat) (ap (λ (z : View). z.heard) i.seat),
+          (ap (λ (z : View). z.opening) i.seat) (ap (λ (z : View). z.heard) i.seat)
+          (ap (λ (z : View). z.known) i.seat) (ap (λ (z : View). z.log) i.seat),
     )
 
 pub invariant_of-push : goal.invariant_of-push
