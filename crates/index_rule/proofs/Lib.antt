@@ -1,5 +1,7 @@
+pub mod BuiltLaws
 pub mod Logging
 pub mod Steps
+pub mod Looking
 pub mod Seats
 pub mod Opens
 pub mod StepKinds
@@ -9,3 +11,7 @@ pub mod LaidRows
 pub mod Ending
 pub mod FreeSteps
 pub mod Stepping
+mod Standing
+mod LockWords
+mod RecordSteps
+mod RootSteps

@@ -1,5 +1,5 @@
 -- A seat's log stays true while others step, and has an entry more after a change of its own.
-use Rattle.std.proofs.Common.{◌≡◌, ◌≢◌, ℕ, Option, Some, [], ◌∷◌, ◌++◌, refl, sym, ap, ◌∙◌, subst}
+use Rattle.std.proofs.Common.{◌≡◌, ◌≢◌, ℕ, [], ◌∷◌, ◌++◌, sym, ◌∙◌}
 use Rattle.std.proofs.Common.{Bool}
 use Rattle.map_model.specs.declared.entries.Change.{Change}
 use Rattle.map_model.specs.declared.entries.Change.TheVariants as change

@@ -12,10 +12,12 @@ use Rattle.index_machine.specs.declared.opening.Opening.{Opening}
 use Rattle.index_machine.specs.Lists.{In, AreDistinct}
 use Rattle.index_machine.specs.Words.{limits}
 use Rattle.index_machine.specs.Sections.{crossings}
+use Rattle.index_machine.proofs.Holders.{holds_no_lock_first}
 use Rattle.index_rule.specs.declared.view.View.{View}
 use Rattle.index_rule.specs.declared.board.Board.{Board}
 use Rattle.index_rule.specs.declared.hand.Hand.{Hand}
-use Rattle.index_rule.specs.Rule.{Kept, Knows, StandsFor, IsFollowing, first_view, counting}
+use Rattle.index_rule.specs.Rule.{Kept, Knows, StandsFor, IsFollowing, KeepsLockedWord}
+use Rattle.index_rule.specs.Rule.{first_view, counting}
 use Rattle.index_rule.specs.Hands.{IsHandOf, opening_of, view}
 use Rattle.index_rule.specs.Seats.{new_hand, rest_of, others_left, one_hand}
 use Rattle.index_rule.specs.Opened.{AreNewHands, HasNewHands}
@@ -109,6 +111,14 @@ pub new_crossings : (o : Opening) (c : ℕ) (v : View) → v ≡ new_hand o c �
     0 ≡ crossings c v.known % 2 ^ 64
 new_crossings o c v is =
     let none : crossings c v.known ≡ 0 = ap (λ (z : View). crossings c z.known) is in omega arith
+
+pub new_locked : (o : Opening) (c word : ℕ) (v : View) → v ≡ new_hand o c →
+    KeepsLockedWord v c word
+new_locked o c word v is =
+    subst (λ (z : View). KeepsLockedWord z c word) (sym is) record {
+      kept = λ p of caller place version removed before value e.
+          absurd (holds_no_lock_first p c place (version, removed, before, value, e));
+    }
 
 pub new_opening : (o : Opening) (c : ℕ) (v : View) → v ≡ new_hand o c → v.opening ≡ Some o
 new_opening o c v is = ap (λ (z : View). z.opening) is

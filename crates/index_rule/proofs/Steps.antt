@@ -30,6 +30,9 @@ use Rattle.index_rule.proofs.Logging.{log_on, log_more}
 use Rattle.map_model.specs.Logs.{Log, IsLogOf}
 use Rattle.index_machine.specs.Openings.{opening_map}
 use Rattle.index_machine.specs.LivePlaces.{history}
+use Rattle.index_rule.specs.Rule.{KeepsLockedWord}
+use Rattle.index_rule.specs.LockWords.{IsLockedWord, locked_word_after}
+use Rattle.index_rule.proofs.LockWords.{locked_word_on, locked_word_own}
 
 -- ---- the seats ----
 
@@ -183,6 +186,23 @@ crossings_stepped v d newer c is out =
     ap (λ (z : Bool). crossings_after z d (crossings c t)) (eq-eqb (number v) c mine)
     ∙ ap (crossings_after true d) (crossings_on c newer v.known out)
 
+-- the word that a caller keeps, after a step of its own
+locked_stepped : (v : View) (d : Action) (newer : Execution) (c x : ℕ) → v.numbers ≡ c ∷ [] →
+    Without c newer →
+    ((o : Opening) → v.opening ≡ Some o → Valid o (stepped v d newer).known) →
+    KeepsLockedWord v c x → KeepsLockedWord (stepped v d newer) c (locked_word_after d x)
+locked_stepped v d newer c x is out valid old = record {
+  kept = λ o of caller.
+      let mine : number v ≡ c = ap first_of is in
+      let may : Allowed o (newer ++ v.known) c d =
+      subst (λ (z : ℕ). Allowed o (newer ++ v.known) z d) mine (valid o of).0
+      in
+      subst (λ (z : ℕ). IsLockedWord o c (locked_word_after d x) (event z d ∷ newer ++ v.known))
+      (sym mine)
+      (locked_word_own o c x d (newer ++ v.known) caller may
+      (locked_word_on o c x newer v.known out (old.kept o of caller)));
+}
+
 pub acts : (o : Opening) (slots id : ℕ) (me : Me (Unit {0}) View) (c : ℕ) (w : Word)
     (f : ℕ → ℕ) (d : ℕ → Action) → IsWord (limits o) w → me.0.numbers ≡ c ∷ [] →
     me.0.opening ≡ Some o → Owes o c me.0 w f d →
@@ -254,5 +274,8 @@ acts o slots id me c w f d is_word is live owes s r _ at _ =
         following = λ p of. merely (all.1.3 p of);
         crossed = λ hand one. crossings_stepped v (d n) newer hand one
             (subst (λ (z : ℕ). Without z newer) (sym me_is ∙ ap first_of one) out);
+        locked = λ hand word one. locked_stepped v (d n) newer hand word one
+            (subst (λ (z : ℕ). Without z newer) (sym me_is ∙ ap first_of one) out)
+            (λ p of. (all.1.3 p of).valid);
       },
     )

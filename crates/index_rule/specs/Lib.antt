@@ -1,8 +1,13 @@
 pub mod Built
+pub mod BuiltLaws
 pub mod Rule
 pub mod Steps
 pub mod Hands
+pub mod Moments
+pub mod Looks
 pub mod OwnRows
 pub mod Seats
 pub mod Opened
 pub mod Ended
+pub mod LockWords
+pub mod Records

@@ -17,13 +17,14 @@ use Rattle.index_machine.specs.declared.opening.Opening.{Opening}
 use Rattle.index_machine.specs.Execution.{Execution, event, Without}
 use Rattle.index_machine.specs.Lists.{In, AreDistinct}
 use Rattle.index_machine.specs.Words.{limits, word}
-use Rattle.index_machine.specs.Sections.{IsHand, crossings, crossings_after}
+use Rattle.index_machine.specs.Sections.{IsCaller, IsHand, crossings, crossings_after}
 use Rattle.index_machine.specs.Openings.{opening_map}
 use Rattle.index_machine.specs.LivePlaces.{history, value_in_map}
 use Rattle.index_machine.specs.Conditions.{Valid}
 use Rattle.index_rule.specs.Built.{AreBuilt}
 use Rattle.index_rule.specs.declared.view.View.{View}
 use Rattle.index_rule.specs.declared.view.Heard.{Heard}
+use Rattle.index_rule.specs.LockWords.{IsLockedWord, locked_word_after}
 
 -- ---- what a seat knows ----
 
@@ -160,6 +161,10 @@ Acts v action w =
 abbrev pub IsFollowing : View → Type 0
 IsFollowing v = (o : Opening) → v.opening ≡ Some o → ∥ Follows o v ∥₁
 
+-- a caller keeps the state word that it locked, while it holds a version lock
+pub record KeepsLockedWord (v : View) (hand word : ℕ) : Type 0 where
+  pub kept : (o : Opening) → v.opening ≡ Some o → IsCaller o hand → IsLockedWord o hand word v.known
+
 -- what a step tells its hand
 pub record Does (m : Me (Unit {0}) View) (action : Action) (x : Me (Unit {0}) View) : Type 0 where
   pub acts : Acts m.0 action x.0
@@ -168,3 +173,5 @@ pub record Does (m : Me (Unit {0}) View) (action : Action) (x : Me (Unit {0}) Vi
   pub following : IsFollowing x.0
   pub crossed : (hand : ℕ) → m.0.numbers ≡ hand ∷ [] →
       crossings hand x.0.known ≡ crossings_after true action (crossings hand m.0.known)
+  pub locked : (hand word : ℕ) → m.0.numbers ≡ hand ∷ [] → KeepsLockedWord m.0 hand word →
+      KeepsLockedWord x.0 hand (locked_word_after action word)

@@ -10,7 +10,10 @@ mod closing;
 mod epochs;
 mod free_stack;
 mod laying;
+mod looking;
 mod opening;
+mod records;
+mod root;
 
 /// The shared words of one index. Each call that is given a hand is one atomic step, and keeps
 /// the rule.

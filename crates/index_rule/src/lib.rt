@@ -7,6 +7,8 @@
 
 mod board;
 mod hand;
+mod laws;
+mod looks;
 mod own_rows;
 mod plays;
 mod rows;
@@ -16,6 +18,11 @@ mod view;
 
 pub use board::Board;
 pub use hand::Hand;
+pub use laws::{
+    arrays_are_as_opened, buffers_are_empty_yet, keys_have_one_place, no_place_forwards_yet,
+    root_is_as_opened,
+};
+pub use looks::Sight;
 pub use own_rows::OwnRow;
 pub use rows::{PrivateRow, RetiredRow};
 pub use rule::{Place, Words};

@@ -3,12 +3,16 @@
 ghost use Rattle.std.specs.Prelude.{◌==◌, cond};
 ghost use Rattle.index_machine.specs.declared.events.Action.TheVariants.{Enter, Leave, LoadFree};
 ghost use Rattle.index_machine.specs.declared.events.Action.TheVariants.{PopFree, FailPop};
-ghost use Rattle.index_machine.specs.declared.events.Action.TheVariants.{PushFree, FailPush};
+ghost use Rattle.index_machine.specs.declared.events.Action.TheVariants.{PushFree, FailPush, LoadRoot};
 ghost use Rattle.index_rule.specs.Rule.{Does, word_in};
 ghost use Rattle.index_rule.specs.Steps.{epoch_load, link_load, private_store};
+ghost use Rattle.index_rule.specs.Steps.{slot_group_load, state_load, value_load};
+ghost use Rattle.index_rule.specs.Steps.{lock_made, lock_failed, value_store, unlock_store};
 
+use crate::looks::Sight;
 use crate::view::View;
 use atomic_table::{Join, Play, Split};
+use std::marker::PhantomData;
 
 pub struct LoadsEpoch;
 
@@ -59,6 +63,60 @@ impl Play<(), View> for PushesFree {
     ghost then = { λ st me n w.
         Does me (cond (n == st.first) (PushFree st.second st.first)
         (FailPush st.second st.first n)) w };
+}
+
+pub struct LoadsRoot;
+
+impl Play<(), View> for LoadsRoot {
+    ghost then = { λ st me n w. Does me (LoadRoot n) w };
+}
+
+pub struct LoadsSlotGroup;
+
+impl Play<(), View> for LoadsSlotGroup {
+    ghost then = { λ st me n w. Does me (slot_group_load (word_in me.0 st.word) n) w };
+}
+
+pub struct LoadsState;
+
+impl Play<(), View> for LoadsState {
+    ghost then = { λ st me n w. Does me (state_load (word_in me.0 st.word) n) w };
+}
+
+pub struct LoadsValue;
+
+impl Play<(), View> for LoadsValue {
+    ghost then = { λ st me n w. Does me (value_load (word_in me.0 st.word) n) w };
+}
+
+pub struct Locks;
+
+impl Play<(), View> for Locks {
+    ghost then = { λ st me n w.
+        Does me (cond (n == st.first) (lock_made (word_in me.0 st.word) st.first)
+        (lock_failed (word_in me.0 st.word) st.first n)) w };
+}
+
+pub struct StoresValue;
+
+impl Play<(), View> for StoresValue {
+    ghost then = { λ st me n w. Does me (value_store (word_in me.0 st.word) n) w };
+}
+
+pub struct Unlocks;
+
+impl Play<(), View> for Unlocks {
+    ghost then = { λ st me n w. Does me (unlock_store me.0 (word_in me.0 st.word) n) w };
+}
+
+pub struct NotesLook<L: Sight> {
+    of: PhantomData<L>,
+}
+
+impl<L: Sight> Play<(), View> for NotesLook<L> {
+    ghost use Rattle.index_rule.specs.Looks.{Notes};
+
+    ghost then = { λ st me n w. Notes L.start L.key L.found me w };
 }
 
 pub struct MakesHand;

@@ -7,9 +7,8 @@ use native.Mathlib.Decide.{ℕ_discrete}
 use Rattle.index_machine.proofs.Executions.{choice-other, choice-same}
 use Rattle.index_machine.specs.Conditions.{Allowed, Valid}
 use Rattle.index_machine.specs.Execution.{Execution, event, own}
-use Rattle.index_machine.specs.Forms.{Copied, Locked, Moved, Redirect, Unlocked, copied_away}
-use Rattle.index_machine.specs.Forms.{is_removed, made_direct, put_value, with_lock, with_value}
-use Rattle.index_machine.specs.Forms.{without_lock}
+use Rattle.index_machine.specs.Forms.{Redirect, Unlocked, copied_away}
+use Rattle.index_machine.specs.Forms.{is_removed, made_direct}
 use Rattle.index_machine.specs.Groups.{IsInUse, phase, root}
 use Rattle.index_machine.specs.KeyRanges.{group_of, or_else, successor}
 use Rattle.index_machine.specs.LivePlaces.{live_place}
@@ -20,10 +19,9 @@ use Rattle.index_machine.specs.Reaching.{SeesSlot}
 use Rattle.index_machine.specs.Rows.{InArray, InBuffer, role, role_key}
 use Rattle.index_machine.specs.Sections.{IsCaller}
 use Rattle.index_machine.specs.declared.events.Action.{Action}
-use Rattle.index_machine.specs.declared.events.Action.TheVariants.{Close, Copy, Install, LinkRow}
-use Rattle.index_machine.specs.declared.events.Action.TheVariants.{Lock, StoreDirect, StoreMoved}
-use Rattle.index_machine.specs.declared.events.Action.TheVariants.{StoreRedirect, StoreValue}
-use Rattle.index_machine.specs.declared.events.Action.TheVariants.{Unlock}
+use Rattle.index_machine.specs.declared.events.Action.TheVariants.{Install, LinkRow}
+use Rattle.index_machine.specs.declared.events.Action.TheVariants.{StoreDirect}
+use Rattle.index_machine.specs.declared.events.Action.TheVariants.{StoreRedirect}
 use Rattle.index_machine.specs.declared.events.InstallWord.{InstallWord}
 use Rattle.index_machine.specs.declared.opening.Opening.{Opening}
 use Rattle.machine_barriers.proofs.OpenedGroups.{opened_groups_hold}
@@ -33,6 +31,7 @@ use Rattle.machine_keeper.specs.Marks.{pending_redirect}
 use Rattle.machine_places.proofs.Forms.{none_some, not_so, some_is}
 use Rattle.machine_places.proofs.LivePlaces.{live_place-lives}
 use Rattle.machine_places.specs.Agreement.{LivePlacesStand, MapAgrees}
+pub use Rattle.machine_readers.proofs.LockSteps.{locked_step}
 use Rattle.machine_readers.proofs.Redirects.{redirect_back}
 use Rattle.machine_readers.proofs.Roles.{IsLinkOf, row_back}
 use Rattle.machine_readers.proofs.Tombstones.{removed-has_no_value, removed_step}
@@ -71,52 +70,6 @@ pub redirects_are_pending : (o : Opening) → ((a q y : ℕ) → form o a [] ≢
 redirects_are_pending o start [] valid a q y e = absurd (start a q y e)
 redirects_are_pending o start (e ∷ t) valid a q y at =
     pending_step o t e.by e.action valid.0 (redirects_are_pending o start t valid.1) a q y at
-
--- a version lock is nobody else's to change
-pub locked_step : (o : Opening) (t : Execution) (b : ℕ) (d : Action) (c p k v x z : ℕ) (r : Bool) →
-    Allowed o t b d → b ≢ c → role_key (role o p t) ≡ Some k → form o p t ≡ Locked c v r x z →
-    form o p (event b d ∷ t) ≡ Locked c v r x z
-locked_step o t b (LinkRow g q d prior next) c p k v x z r may n s e =
-    choice-other q p (Unlocked (first_version o) false (put_value d)) (form o p t)
-    (λ i. none_some (sym (ap role_key may.mine) ∙ (ap (λ (y : ℕ). role_key (role o y t)) i ∙ s)))
-    ∙ e
-locked_step o t b (StoreRedirect g q j to) c p k v x z r may n s e =
-    choice-other q p (Redirect to 0) (form o p t)
-    (λ i. none_some (sym (ap role_key may.unused) ∙ (ap (λ (y : ℕ). role_key (role o y t)) i ∙ s)))
-    ∙ e
-locked_step o t b (Lock q expected) c p k v x z r may n s e =
-    choice-other q p (with_lock b (form o p t)) (form o p t)
-    (λ i. let bad : Unlocked may.version may.removed may.value ≡ Locked c v r x z = sym may.unlocked
-    ∙ (ap (λ (y : ℕ). form o y t) i ∙ e) in cc) ∙ e
-locked_step o t b (Close q expected) c p k v x z r may n s e =
-    choice-other q p (with_lock b (form o p t)) (form o p t)
-    (λ i. let f = may.unlocked in let bad : Unlocked f.0 f.1 f.2 ≡ Locked c v r x z = sym f.3
-    ∙ (ap (λ (y : ℕ). form o y t) i ∙ e) in cc) ∙ e
-locked_step o t b (StoreValue q w) c p k v x z r may n s e =
-    choice-other q p (with_value w (form o p t)) (form o p t)
-    (λ i. let f = may.1 in let two : Locked b f.0 f.1 f.2 f.3 ≡ Locked c v r x z = sym f.4
-    ∙ (ap (λ (y : ℕ). form o y t) i ∙ e) in let same : b ≡ c = cc in n same) ∙ e
-locked_step o t b (Copy q w) c p k v x z r may n s e =
-    choice-other q p (with_value w (form o p t)) (form o p t)
-    (λ i. let bad : Redirect may.place may.value ≡ Locked c v r x z = sym may.forwards
-    ∙ (ap (λ (y : ℕ). form o y t) i ∙ e) in cc) ∙ e
-locked_step o t b (Unlock q w d raised) c p k v x z r may n s e =
-    choice-other q p (without_lock w (form o p t)) (form o p t)
-    (λ i. let f = may.1 in let two : Locked b f.version f.was f.before f.value ≡ Locked c v r x z =
-    sym f.holds ∙ (ap (λ (y : ℕ). form o y t) i ∙ e) in let same : b ≡ c = cc in n same) ∙ e
-locked_step o t b (StoreMoved q) c p k v x z r may n s e =
-    choice-other q p Moved (form o p t) (λ i.
-    let bad : Copied may.version may.removed may.value ≡ Locked c v r x z = sym may.copied
-    ∙ (ap (λ (y : ℕ). form o y t) i ∙ e) in cc) ∙ e
-locked_step o t b (StoreDirect a q j w raised) c p k v x z r may n s e =
-    choice-other a p (made_direct (first_version o) w (form o p t))
-    (cond (q == p) (copied_away (form o p t)) (form o p t))
-    (λ i. let bad : Redirect q may.value ≡ Locked c v r x z = sym may.forwards
-    ∙ (ap (λ (y : ℕ). form o y t) i ∙ e) in cc)
-    ∙ (choice-other q p (copied_away (form o p t)) (form o p t)
-    (λ i. let two : Locked b may.version w may.value may.value ≡ Locked c v r x z = sym may.holds
-    ∙ (ap (λ (y : ℕ). form o y t) i ∙ e) in let same : b ≡ c = cc in n same) ∙ e)
-locked_step o t b d c p k v x z r may n s e = e
 
 -- where nobody may insert no row comes to the buffer, and what is removed in the group stays so
 pub rows_final : (o : Opening) (t : Execution) (b : ℕ) (d : Action) (g k q : ℕ) → Allowed o t b d →

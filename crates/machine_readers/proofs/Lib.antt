@@ -17,3 +17,4 @@ pub mod FormsMet
 pub mod Readers
 pub mod Reached
 pub mod FromOpening
+pub mod LockSteps

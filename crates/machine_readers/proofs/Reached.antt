@@ -110,7 +110,7 @@ reached_step c p b (LoadLink g q found) t within e =
     still_reached b c (names_place found p) (reached c p t) e
 reached_step c p b d t within e = e
 
-reached_on : (c p : ℕ) (n t : Execution) → StaysInside c n → reached c p t ≡ true →
+pub reached_on : (c p : ℕ) (n t : Execution) → StaysInside c n → reached c p t ≡ true →
     reached c p (n ++ t) ≡ true
 reached_on c p [] t stay e = e
 reached_on c p (x ∷ n) t stay e =

@@ -1,12 +1,15 @@
 -- How a log goes on.
 use Rattle.std.proofs.Common.{◌≡◌, ◌≢◌, ℕ, ◌+◌, ◌<◌, ◌≤◌, Bool, true, false, cond, ◌==◌, nat_lt}
-use Rattle.std.proofs.Common.{Option, Some, None, List, [], ◌∷◌, length, refl, sym, ap, ◌∙◌, subst}
+use Rattle.std.proofs.Common.{Option, Some, None, List, [], ◌∷◌, ◌++◌, length, length-append, refl, sym, ap, ◌∙◌, subst}
 use Rattle.std.proofs.Common.{arith, eq-eqb, ne_eqb, lt-ltb, le-ltb}
 use Rattle.std.proofs.lemmas.Bool.Decides.{nat_tests}
 use Rattle.map_model.specs.declared.entries.Change.{Change}
 use Rattle.map_model.specs.declared.entries.Entry.{Entry}
 use Rattle.map_model.specs.declared.entries.Entry.TheVariants.{Made, Look}
-use Rattle.map_model.specs.Map.{Map, look, key_of}
+use Rattle.map_model.specs.declared.entries.Change.TheVariants as change
+use Rattle.map_model.specs.Map.{Map, IsRising, look, key_of}
+use Rattle.map_model.specs.Answer.{pair_at}
+use Rattle.map_model.proofs.Pairs.{found-at_one, rising-put, rising-remove}
 use Rattle.map_model.specs.Entry.{IsFound}
 use Rattle.map_model.specs.History.{History, after, caller_of, changes_by}
 use Rattle.map_model.specs.Logs.{before_place, change_at, StandsIn, Log, AllStandIn, IsLogOf}
@@ -51,7 +54,35 @@ change_at-end : (d : Change) (h : History) → change_at (length h) (d ∷ h) �
 unfolding change_at
 change_at-end d h = rw (eq-eqb (length h) (length h) refl) refl
 
+-- behind newer changes it is what was there before them
+pub before_place-append : (newer h : History) → before_place (length h) (newer ++ h) ≡ h
+before_place-append [] h = before_place-end h
+before_place-append (d ∷ newer) h =
+    let long = length-append newer h in
+    before_place-more (length h) d (newer ++ h) (omega arith) ∙ before_place-append newer h
+
+-- a map stays one with rising keys
+pub rising-after : (m : Map) (h : History) → IsRising m → IsRising (after m h)
+rising-after m [] rising = rising
+rising-after m (change.Put c k v ∷ h) rising =
+    rising-put (after m h) k v (rising-after m h rising)
+rising-after m (change.Remove c k ∷ h) rising =
+    rising-remove (after m h) k (rising-after m h rising)
+
 -- ---- entries ----
+
+-- a look at one key is true where its history ends with newer changes
+pub look-stands : (m : Map) (newer h : History) (key : ℕ) (found : Option ℕ) → IsRising m →
+    look (after m h) key ≡ found →
+    StandsIn m (newer ++ h) (Look (length h) key key (pair_at key found))
+look-stands m newer h key found rising e =
+    let long = length-append newer h in (
+      omega arith,
+      omega arith,
+      subst (λ (z : History × Option ℕ). IsFound (after m z.0) key key (pair_at key z.1))
+          (λ i. (sym (before_place-append newer h) i, e i))
+          (found-at_one (after m h) key (rising-after m h rising)),
+    )
 
 stands_more : (m : Map) (h : History) (d : Change) (e : Entry) → StandsIn m h e →
     StandsIn m (d ∷ h) e

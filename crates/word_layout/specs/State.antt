@@ -1,5 +1,5 @@
 -- The words of states.
-use Rattle.std.specs.Prelude.{ℕ, ◌+◌, ◌*◌, ◌≤◌, ◌<◌, ◌^◌, if◌then◌else◌}
+use Rattle.std.specs.Prelude.{◌≡◌, ℕ, ◌+◌, ◌*◌, ◌≤◌, ◌<◌, ◌^◌, Bool, false, if◌then◌else◌}
 use Rattle.word_layout.specs.declared.state.State.{State}
 use Rattle.word_layout.specs.declared.state.State.TheVariants.{Direct, Redirect, Moved}
 
@@ -15,3 +15,12 @@ abbrev pub IsWritableState : State → Type 0
 IsWritableState (Direct version _ _) = version ≤ 1152921504606846975
 IsWritableState (Redirect place) = (1 ≤ place) × (place < 2 ^ 28)
 IsWritableState Moved = Unit {0}
+
+-- the word is that of an unlocked record with this version, which can still be raised
+pub record IsUnlockedWord (version : ℕ) (removed : Bool) (word : ℕ) : Type 0 where
+  pub is : word ≡ word_of_state (Direct version false removed)
+  pub raisable : version < 1152921504606846975
+
+-- the word is that of an unlocked record whose version can still be raised
+abbrev pub IsLockable : ℕ → Type 0
+IsLockable word = (version : ℕ) × (removed : Bool) × IsUnlockedWord version removed word

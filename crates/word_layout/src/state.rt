@@ -1,8 +1,10 @@
 //! The state word of a record: its version lock, or where the record has gone.
 //!
 //! Every state has one word, and a word that is none of these is no state.
-ghost use Rattle.std.specs.Prelude.{◌≡◌, IfSome};
+ghost use Rattle.std.specs.Prelude.{◌≡◌, ◌+◌, ℕ, Bool, false, IfSome};
 ghost use Rattle.word_layout.specs.State.{word_of_state, IsWritableState};
+ghost use Rattle.word_layout.specs.State.{IsLockable, IsUnlockedWord};
+ghost use Rattle.word_layout.specs.declared.state.State.TheVariants.{Direct};
 
 /// What the state word of a record says.
 #[derive(Clone, Copy, Debug, PartialEq, Eq)]
@@ -63,6 +65,25 @@ impl State {
             _ => None,
         }
     }
+}
+
+/// The word by which an unlocked one is exchanged to take its lock.
+#[inline]
+pub fn locked_word(unlocked: u64) -> u64
+    requires { IsLockable unlocked }
+    ensures { result ≡ unlocked + 4 }
+{
+    unlocked + 4
+}
+
+/// The word that releases the lock of a record that had the unlocked one: its version is raised.
+#[inline]
+pub fn released_word(unlocked: u64, removed: bool) -> u64
+    requires { IsLockable unlocked }
+    ensures { (version : ℕ) (was : Bool) → IsUnlockedWord version was unlocked →
+        result ≡ word_of_state (Direct (version + 1) false removed) }
+{
+    unlocked / 16 * 16 + 16 + 8 * u64::from(removed)
 }
 
 #[cfg(test)]

@@ -48,6 +48,7 @@ impl Board {
             mut seat,
             number: _,
             epoch: _,
+            locked: _,
         } = hands.pop().unwrap();
         self.join_all(&mut seat, hands);
         let Board { words, layout: _ } = self;
@@ -69,6 +70,7 @@ impl Board {
                 seat: other,
                 number: _,
                 epoch: _,
+                locked: _,
             } = hand;
             self.words.shared.join_seat::<TakesIn>(seat, other);
         }

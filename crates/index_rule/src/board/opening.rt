@@ -66,12 +66,14 @@ impl Board {
                 seat: one,
                 number,
                 epoch: 0,
+                locked: 0,
             })?;
         }
         hands.push(Hand {
             seat,
             number: callers,
             epoch: 0,
+            locked: 0,
         })?;
         Ok(hands)
     }

@@ -7,7 +7,7 @@ use Rattle.index_rule.specs.Hands.{opening_of}
 use Rattle.index_rule.specs.Opened.{AreNewHands}
 use Rattle.index_rule.specs.Seats.{new_hand, one_hand, others_left, rest_of}
 use Rattle.index_rule.proofs.Opens.{left_next, one_next, last_one, are_push, new_following}
-use Rattle.index_rule.proofs.Opens.{new_crossings, new_opening}
+use Rattle.index_rule.proofs.Opens.{new_crossings, new_locked, new_opening}
 use Rattle.index_rule.proofs.Seats.{makes_hand}
 use Rattle.index_rule.proofs.board.Board.make_hands.Goals as goal
 
@@ -52,6 +52,7 @@ invariant_of-push c =
       mine = ap (λ (z : View). z.numbers) is;
       counted = new_crossings o n _ is;
       following = new_following o n _ is;
+      locks = new_locked o n 0 _ is;
       bare = ap (λ z. z.1) c.split_seat-one.ensures.4;
     }
 
@@ -93,6 +94,7 @@ invariant_of-push-2 c =
       mine = ap (λ (z : View). z.numbers) is;
       counted = new_crossings o k _ is;
       following = new_following o k _ is;
+      locks = new_locked o k 0 _ is;
       bare = i.bare;
     }
 

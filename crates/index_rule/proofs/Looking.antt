@@ -1,0 +1,190 @@
+-- A step that writes a look keeps the rule, and makes no event.
+use Rattle.std.proofs.Common.{◌≡◌, ◌≢◌, ℕ, ◌≤◌, inl, inr, ⊎_elim, Option, Some, [], ◌∷◌, ◌++◌, length}
+use Rattle.std.proofs.Common.{length-append, arith, refl, sym, ap, ◌∙◌, subst, List, slice_index}
+use Rattle.std.proofs.Common.{slice_set, set}
+use mathlib.Core.Option.{some}
+use lib.ListN.{get_elem?}
+use Rattle.std.proofs.lemmas.Grind.{merely}
+use Rattle.std.proofs.lemmas.List.{set-get_or}
+use Rattle.std.proofs.Math.Logic.{∥∥₁_elim}
+use Rattle.std.proofs.Props.{props}
+use Rattle.atomic_table.specs.Table.{Me, keeps, Allows}
+use Rattle.atomic_table.proofs.Lists.{at_set}
+use Rattle.map_model.specs.Map.{IsRising}
+use Rattle.map_model.specs.History.{History}
+use Rattle.map_model.specs.declared.entries.Entry.TheVariants.{Look}
+use Rattle.map_model.specs.Answer.{pair_at}
+use Rattle.map_model.specs.Logs.{Log, IsLogOf, StandsIn, least_place}
+use Rattle.map_model.proofs.Logging.{end_in_history, looks_end, look-stands}
+use Rattle.index_machine.specs.declared.events.Action.{Action}
+use Rattle.index_machine.specs.declared.events.Action.TheVariants.{Unlock, LinkRow}
+use Rattle.index_machine.specs.declared.opening.Opening.{Opening}
+use Rattle.index_machine.specs.Execution.{Execution, Without, Continues, event}
+use Rattle.index_machine.specs.Openings.{opening_map}
+use Rattle.index_machine.specs.LivePlaces.{history, history_after, value_in_map}
+use Rattle.index_rule.specs.declared.board.Board.{Board}
+use Rattle.index_rule.specs.declared.hand.Hand.{Hand}
+use Rattle.index_rule.specs.declared.view.View.{View}
+use Rattle.index_machine.specs.Conditions.{Valid}
+use Rattle.index_machine.proofs.Executions.{valid_before}
+use Rattle.index_rule.specs.Built.{AreBuilt}
+use Rattle.index_rule.specs.Rule.{Follows, HasLog, Kept, Knows, IsFollowing, StandsFor, number}
+use Rattle.index_rule.specs.Rule.{first_of}
+use Rattle.index_rule.proofs.Logging.{built_before}
+use Rattle.index_rule.specs.Hands.{IsHandOf, known, opening_of, view}
+use Rattle.index_rule.specs.Moments.{IsBetween}
+use Rattle.index_rule.specs.Looks.{MayNote, Notes, with_look}
+use Rattle.index_rule.proofs.Steps.{apart_set, is_some, one_opening}
+
+-- ---- histories ----
+
+-- the map at the opening has rising keys
+opening-rising : (o : Opening) → IsRising (opening_map o)
+opening-rising o = o.rising
+
+history_more : (d : Action) (h : History) →
+    (newer : History) × (newer ++ h ≡ history_after d h)
+history_more (Unlock p r d w) h = (d ∷ [], refl)
+history_more (LinkRow g p d before next) h = (d ∷ [], refl)
+history_more d h = ([], refl)
+
+append_more : (m n h : History) → (newer : History) × (newer ++ h ≡ m ++ (n ++ h))
+append_more [] n h = (n, refl)
+append_more (d ∷ m) n h =
+    let rest = append_more m n h in (d ∷ rest.0, ap (λ (z : History). d ∷ z) rest.1)
+
+-- the history of a later execution goes on from that of the earlier one
+pub history_on : (newer t : Execution) →
+    (more : History) × (more ++ history t ≡ history (newer ++ t))
+history_on [] t = ([], refl)
+history_on (e ∷ newer) t =
+    let rest = history_on newer t in
+    let step = history_more e.action (history (newer ++ t)) in
+    let both = append_more step.0 rest.0 (history t) in
+    let inner : rest.0 ++ history t ≡ history (newer ++ t) = rest.1 in
+    let outer : step.0 ++ (rest.0 ++ history t) ≡ step.0 ++ history (newer ++ t) =
+    ap (λ (z : History). step.0 ++ z) inner
+    in
+    (both.0, both.1 ∙ (outer ∙ step.1))
+
+-- and is no shorter
+pub history_grows : (first later : Execution) → Continues first later →
+    length (history first) ≤ length (history later)
+history_grows first later c =
+    let more = history_on c.0 first in
+    let long = length-append more.0 (history first) in
+    let same : length (more.0 ++ history first) ≡ length (history later) =
+    ap (λ (z : History). length z) (more.1 ∙ ap history c.1)
+    in
+    omega arith
+
+-- so is that of a moment of a call, by the execution before the call
+pub moment_grows : (hand : ℕ) (first later moment : Execution) → IsBetween hand first later moment →
+    length (history first) ≤ length (history moment)
+moment_grows hand first later moment within =
+    history_grows first moment (
+      within.3.0 ++ event hand within.0 ∷ within.1,
+      assoc within.3.0 (event hand within.0 ∷ within.1) first ∙ within.3.1,
+    )
+  where
+    assoc : (a b c : Execution) → (a ++ b) ++ c ≡ a ++ (b ++ c)
+    assoc [] b c = refl
+    assoc (e ∷ a) b c = ap (λ (z : Execution). e ∷ z) (assoc a b c)
+
+-- ---- logs ----
+
+-- a look that is noted goes to the end of the log
+look_more : (o : Opening) (c : ℕ) (v : View) (moment : Execution) (key : ℕ) (found : Option ℕ) →
+    Continues moment v.known → value_in_map o key moment ≡ found →
+    least_place v.log ≤ length (history moment) →
+    IsLogOf (opening_map o) c (history v.known) v.log →
+    IsLogOf (opening_map o) c (history v.known) (with_look v moment key found).log
+look_more o c v moment key found goes value least old =
+    let more = history_on goes.0 moment in
+    looks_end (opening_map o) c (history v.known) v.log (length (history moment)) key key _ old least
+    (subst
+    (λ (z : History). StandsIn (opening_map o) z
+    (Look (length (history moment)) key key (pair_at key found)))
+    (more.1 ∙ ap history goes.1)
+    (look-stands (opening_map o) more.0 (history moment) key found (opening-rising o) value))
+
+-- ---- the step ----
+
+-- the seat may write a look
+pub notes : (o : Opening) (slots id : ℕ) (me : Me (Unit {0}) View) (a : ℕ) (start : View) (key : ℕ)
+    (found : Option ℕ) (moment : Execution) → me.0.opening ≡ Some o →
+    IsBetween (number me.0) start.known me.0.known moment → value_in_map o key moment ≡ found →
+    least_place me.0.log ≤ length (history moment) →
+    Allows (Kept o) slots id me a (λ n. n) (λ n x. Notes start key found me x)
+notes o slots id me a start key found moment live within value least s r _ at _ =
+    let v : View = me.0 in
+    let k = r.known id v at (is_some v.opening o live) in
+    let w : View = with_look v moment key found in
+    let has : HasLog o w =
+    λ c one. look_more o c v moment key found within.4 value least (k.logged c one)
+    in
+    let knows : Knows o r.execution w =
+    record {
+      opening = k.opening;
+      goes_on = k.goes_on;
+      heard = k.heard;
+      own_heard = k.own_heard;
+      once = k.once;
+      hands = k.hands;
+      logged = has;
+    }
+    in (
+      w,
+      keeps,
+      tt,
+      record {
+        execution = r.execution;
+        valid = r.valid;
+        built = r.built;
+        words = subst (λ (z : List ℕ). StandsFor o z r.execution) (sym (set-get_or s.words a 0))
+            r.words;
+        apart = apart_set s.views id v w r.apart at (λ _ h. h);
+        known = λ i u p q. ⊎_elim (λ (b : (i ≡ id) × (w ≡ u)). subst (Knows o r.execution) b.1 knows)
+            (λ (b : (i ≢ id) × (get_elem? s.views i ≡ some u)). r.known i u b.1 q)
+            (at_set s.views id i w u p);
+      },
+      record {
+        moment = moment;
+        within = within;
+        is = refl;
+        bare = refl;
+        following = λ p of. merely (subst (λ (z : Opening). Follows z w)
+            (one_opening o p (sym live ∙ of)) (record {
+              valid = valid_before o k.goes_on.0 v.known
+                  (subst (Valid o) (sym k.goes_on.1) r.valid);
+              built = built_before k.goes_on.0 v.known
+                  (subst AreBuilt (sym k.goes_on.1) r.built);
+              logged = has;
+            }));
+      },
+    )
+
+-- ---- the call ----
+
+-- the least place of the next entry lies before any moment of the call
+least_now : (b : Board) (start h : Hand) (key : ℕ) (found : Option ℕ) (may : MayNote b start h key found) →
+    least_place (view h).log ≤ length (history may.moment)
+least_now b start h key found may =
+    ∥∥₁_elim (start.following (opening_of b) may.began.opened) (hlevel props)
+    (λ (follows : Follows (opening_of b) (view start)).
+    let own = follows.logged start.number start.mine in
+    let least = end_in_history (opening_map (opening_of b)) start.number (history (known start))
+    (view start).log own in
+    let grows = moment_grows start.number (known start) (known h) may.moment may.within in
+    let same : least_place (view h).log ≡ least_place (view start).log =
+    ap least_place may.no_entry in
+    omega arith)
+
+pub notes_look : (b : Board) (start h : Hand) (key : ℕ) (found : Option ℕ) (slots a : ℕ) →
+    IsHandOf b h → MayNote b start h key found →
+    Allows (Kept (opening_of b)) slots h.seat.id h.seat.me a (λ n. n)
+    (λ n x. Notes (view start) key found h.seat.me x)
+notes_look b start h key found slots a of may =
+    notes (opening_of b) slots h.seat.id h.seat.me a (view start) key found may.moment of.opened
+    (subst (λ (z : ℕ). IsBetween z (known start) (known h) may.moment)
+    (sym may.number ∙ sym (ap first_of h.mine)) may.within) may.value (least_now b start h key found may)

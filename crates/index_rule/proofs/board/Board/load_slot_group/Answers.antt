@@ -1,0 +1,45 @@
+use Rattle.std.proofs.Common.{refl, subst, ◌<◌}
+use Rattle.word_layout.specs.declared.layout.Layout.{Layout}
+use Rattle.word_layout.specs.Layout.{limits_of}
+use Rattle.word_layout.specs.Words.{Word, SlotGroup}
+use Rattle.index_rule.specs.Hands.{opening_of, view}
+use Rattle.index_rule.specs.Rule.{Acts}
+use Rattle.index_rule.specs.Steps.{slot_group_load}
+use Rattle.index_rule.proofs.StepKinds.{inside, at_word, named_in, makes}
+use Rattle.index_rule.proofs.RootSteps.{loads_slot_group, slot_by_hand}
+use Rattle.index_rule.proofs.board.Board.load_slot_group.Goals as goal
+
+pub slot_group-address-requires-clause-is_side : goal.slot_group-address-requires-clause-is_side
+slot_group-address-requires-clause-is_side c =
+    (slot_by_hand c.args.self.now c.args.hand.now c.args.side c.args.slot c.requires.hand
+    c.requires.may).0
+
+pub slot_group-address-requires-clause-is_slot : goal.slot_group-address-requires-clause-is_slot
+slot_group-address-requires-clause-is_slot c =
+    let b = c.args.self.now in
+    subst (λ (l : Layout). c.args.slot < (limits_of l).slots) b.laid
+    (slot_by_hand b c.args.hand.now c.args.side c.args.slot c.requires.hand c.requires.may).1
+
+pub load-requires : goal.load-requires
+load-requires c =
+    let b = c.args.self.now in
+    let h = c.args.hand.now in
+    let w = SlotGroup c.args.side c.args.slot in
+    let there = slot_by_hand b h c.args.side c.args.slot c.requires.hand c.requires.may in
+    let at = c.slot_group-address.ensures.named in (
+      c.requires.hand.table,
+      inside b w _ there at,
+      loads_slot_group (opening_of b) _ h.seat.id h.seat.me h.number h.mine
+          c.requires.hand.opened c.args.side c.args.slot _ c.requires.may there (at_word b w _ at),
+    )
+
+pub returns : goal.returns
+returns c =
+    let b = c.args.self.now in
+    let h = c.args.hand.now in
+    let w = SlotGroup c.args.side c.args.slot in
+    let there = slot_by_hand b h c.args.side c.args.slot c.requires.hand c.requires.may in
+    let name = named_in b h w _ c.requires.hand there c.slot_group-address.ensures.named in
+    makes b h _ _ c.requires.hand c.load.ensures.0 refl
+    (subst (λ (u : Word). Acts (view h) (slot_group_load u c.load.result) c.load.new.seat.me.0) name
+    c.load.ensures.2.acts)

@@ -1,0 +1,71 @@
+-- What the calls on a record ask of a hand, and what an unlock changes and stores.
+use Rattle.std.specs.Prelude.{◌≡◌, ◌⊎◌, ℕ, ◌<◌, Bool, false, cond, Option, Some, None}
+use Rattle.map_model.specs.declared.entries.Change.{Change}
+use Rattle.map_model.specs.declared.entries.Change.TheVariants.{Put, Remove}
+use Rattle.index_machine.specs.declared.opening.Opening.{Opening}
+use Rattle.index_machine.specs.Execution.{Execution}
+use Rattle.index_machine.specs.Words.{limits}
+use Rattle.index_machine.specs.Sections.{IsKeeper, IsReading}
+use Rattle.index_machine.specs.Rows.{role_key, role}
+use Rattle.index_machine.specs.Forms.{Form, Blank, Unlocked, Locked, Copied, Redirect, Moved}
+use Rattle.index_machine.specs.Forms.{IsLockedBy, is_removed, without_lock, state_word}
+use Rattle.index_machine.specs.Places.{form}
+use Rattle.index_machine.specs.Reaching.{SeesSlot}
+use Rattle.index_machine.specs.RecordConditions.{HasKey, IsAt}
+
+-- ---- what a hand can load ----
+
+-- the words of the place can be loaded: the caller stands there, or the keeper knows a key of it
+abbrev pub CanSee : Opening → ℕ → ℕ → Execution → Type 0
+CanSee o hand place t = IsAt o hand place t ⊎ (IsKeeper o hand × HasKey o place t)
+
+-- the words of the slot can be loaded: the caller sees the slot in the root that it loaded, or the
+-- keeper names one of the table
+abbrev pub CanReadSlot : Opening → ℕ → ℕ → ℕ → Execution → Type 0
+CanReadSlot o hand side slot t =
+    (IsReading o hand t × SeesSlot hand side slot t)
+    ⊎ (IsKeeper o hand × (side < 2) × (slot < (limits o).slots))
+
+-- ---- what a hand can change ----
+
+-- the caller holds the version lock of the place where it stands
+pub record HoldsLock (o : Opening) (hand place : ℕ) (t : Execution) : Type 0 where
+  pub there : IsAt o hand place t
+  pub locked : IsLockedBy hand (form o place t)
+
+-- the caller may unlock the place, and leave it removed or with its value: the record was live when
+-- it was locked
+pub record MayRelease (o : Opening) (hand place : ℕ) (removed : Bool) (t : Execution)
+    : Type 0 where
+  pub holds : HoldsLock o hand place t
+  pub live : is_removed (form o place t) ≡ false
+
+-- ---- what an unlock changes ----
+
+-- a number, or 0 for none
+abbrev pub or_zero : Option ℕ → ℕ
+or_zero None = 0
+or_zero (Some n) = n
+
+-- the key of a place, or 0 where it has none
+abbrev pub key_at : Opening → ℕ → Execution → ℕ
+key_at o place t = or_zero (role_key (role o place t))
+
+-- the value that a form has once it is unlocked
+abbrev pub value_of : Form → ℕ
+value_of Blank = 0
+value_of (Unlocked version removed value) = value
+value_of (Locked hand version removed before value) = value
+value_of (Copied version removed value) = value
+value_of (Redirect place value) = value
+value_of Moved = 0
+
+-- the change that an unlock by the hand makes: its key is removed, or has the value of the place
+abbrev pub change_by : Opening → ℕ → ℕ → Bool → Execution → Change
+change_by o hand place removed t =
+    cond removed (Remove hand (key_at o place t))
+    (Put hand (key_at o place t) (value_of (form o place t)))
+
+-- the state word of the place once it is unlocked: its version is raised by one
+abbrev pub unlocked_word : Opening → ℕ → Bool → Execution → ℕ
+unlocked_word o place removed t = state_word (without_lock removed (form o place t))

@@ -1,0 +1,29 @@
+//! What holds of every execution of the kinds of step that the board has calls for by now. Each
+//! function is a law and does nothing.
+ghost use Rattle.index_rule.specs.BuiltLaws.{NoPlaceForwardsYet, ArraysAreAsOpened};
+ghost use Rattle.index_rule.specs.BuiltLaws.{BuffersAreEmptyYet, KeysHaveOnePlace, RootIsAsOpened};
+
+/// No place forwards, and no record was copied away.
+pub fn no_place_forwards_yet()
+    ensures { NoPlaceForwardsYet }
+{}
+
+/// The arrays have the places of the opening.
+pub fn arrays_are_as_opened()
+    ensures { ArraysAreAsOpened }
+{}
+
+/// No row is in a buffer.
+pub fn buffers_are_empty_yet()
+    ensures { BuffersAreEmptyYet }
+{}
+
+/// A key has one place at most.
+pub fn keys_have_one_place()
+    ensures { KeysHaveOnePlace }
+{}
+
+/// The root names one slot of side 0, and this names group 0.
+pub fn root_is_as_opened()
+    ensures { RootIsAsOpened }
+{}
