@@ -1,6 +1,6 @@
 -- Records stand where they stood at the opening, as long as nothing is linked or rebuilt.
 use Rattle.std.proofs.Common.{◌≡◌, ◌≢◌, ℕ, Bool, true, false, cond, ◌==◌, Some, None, [], ◌∷◌}
-use Rattle.std.proofs.Common.{◌⊎◌, ⊎_elim, Option, refl, sym, ap, ◌∙◌, subst}
+use Rattle.std.proofs.Common.{◌⊎◌, ⊎_elim, Option, refl, sym, ap, ◌∙◌}
 use mathlib.Core.Logic.{dite}
 use native.Mathlib.Decide.{ℕ_discrete}
 use Rattle.index_machine.specs.declared.events.Action.{Action}
@@ -22,9 +22,9 @@ use Rattle.index_machine.specs.Rows.{Role, Unused, HeldBy, InArray, InBuffer, ro
 use Rattle.index_machine.specs.Rows.{opening_role}
 use Rattle.index_machine.proofs.OpeningRows.{opening_role-array, opening_role-buffer, opening_row-one}
 use Rattle.machine_readers.proofs.ReachedForms.{keyed_in_group}
-use Rattle.index_machine.specs.Conditions.{Allowed, Valid}
+use Rattle.index_machine.specs.Conditions.{Allowed}
 use Rattle.index_machine.proofs.Executions.{choice-same, choice-other}
-use Rattle.index_rule.specs.Built.{IsBuilt, AreBuilt}
+use Rattle.index_rule.specs.Built.{IsBuilt}
 use Rattle.index_rule.specs.BuiltLaws.{IsInPlace, NoPlaceForwardsYet, ArraysAreAsOpened}
 use Rattle.index_rule.specs.BuiltLaws.{BuffersAreEmptyYet, KeysHaveOnePlace, RootIsAsOpened}
 

@@ -14,7 +14,8 @@ pub mod Stepping
 pub mod Standing
 pub mod StateForms
 pub mod LockWords
-mod RecordSteps
-mod RootSteps
+pub mod RecordSteps
+pub mod RootSteps
 pub mod RecordStepping
 pub mod RecordReading
+pub mod RootStepping

@@ -1,7 +1,6 @@
 -- A step that writes a look keeps the rule, and makes no event.
-use Rattle.std.proofs.Common.{◌≡◌, ◌≢◌, ℕ, ◌≤◌, inl, inr, ⊎_elim, Option, Some, [], ◌∷◌, ◌++◌, length}
-use Rattle.std.proofs.Common.{length-append, arith, refl, sym, ap, ◌∙◌, subst, List, slice_index}
-use Rattle.std.proofs.Common.{slice_set, set}
+use Rattle.std.proofs.Common.{◌≡◌, ◌≢◌, ℕ, ◌≤◌, ⊎_elim, Option, Some, [], ◌∷◌, ◌++◌, length}
+use Rattle.std.proofs.Common.{length-append, arith, refl, sym, ap, ◌∙◌, subst, List}
 use mathlib.Core.Option.{some}
 use lib.ListN.{get_elem?}
 use Rattle.std.proofs.lemmas.Grind.{merely}
@@ -14,12 +13,12 @@ use Rattle.map_model.specs.Map.{IsRising}
 use Rattle.map_model.specs.History.{History}
 use Rattle.map_model.specs.declared.entries.Entry.TheVariants.{Look}
 use Rattle.map_model.specs.Answer.{pair_at}
-use Rattle.map_model.specs.Logs.{Log, IsLogOf, StandsIn, least_place}
+use Rattle.map_model.specs.Logs.{IsLogOf, StandsIn, least_place}
 use Rattle.map_model.proofs.Logging.{end_in_history, looks_end, look-stands}
 use Rattle.index_machine.specs.declared.events.Action.{Action}
 use Rattle.index_machine.specs.declared.events.Action.TheVariants.{Unlock, LinkRow}
 use Rattle.index_machine.specs.declared.opening.Opening.{Opening}
-use Rattle.index_machine.specs.Execution.{Execution, Without, Continues, event}
+use Rattle.index_machine.specs.Execution.{Execution, Continues, event}
 use Rattle.index_machine.specs.Openings.{opening_map}
 use Rattle.index_machine.specs.LivePlaces.{history, history_after, value_in_map}
 use Rattle.index_rule.specs.declared.board.Board.{Board}
@@ -28,7 +27,7 @@ use Rattle.index_rule.specs.declared.view.View.{View}
 use Rattle.index_machine.specs.Conditions.{Valid}
 use Rattle.index_machine.proofs.Executions.{valid_before}
 use Rattle.index_rule.specs.Built.{AreBuilt}
-use Rattle.index_rule.specs.Rule.{Follows, HasLog, Kept, Knows, IsFollowing, StandsFor, number}
+use Rattle.index_rule.specs.Rule.{Follows, HasLog, Kept, Knows, StandsFor, number}
 use Rattle.index_rule.specs.Rule.{first_of}
 use Rattle.index_rule.proofs.Logging.{built_before}
 use Rattle.index_rule.specs.Hands.{IsHandOf, known, opening_of, view}

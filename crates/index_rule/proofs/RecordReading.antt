@@ -1,6 +1,6 @@
 -- What a caller may conclude of a record from its steps there: of a value between two loads of one
 -- state, of the value before a change, and of its log.
-use Rattle.std.proofs.Common.{append_assoc, ◌≡◌, ℕ, Bool, false, Some, [], ◌∷◌, ◌++◌, refl, sym, ap, ◌∙◌, subst, length}
+use Rattle.std.proofs.Common.{append_assoc, ◌≡◌, ℕ, Bool, false, Some, [], ◌∷◌, ◌++◌, sym, ap, ◌∙◌, subst, length}
 use Rattle.word_layout.specs.declared.state.State.TheVariants as state
 use Rattle.word_layout.specs.State.{word_of_state}
 use Rattle.map_model.specs.declared.entries.Change.{Change}
@@ -26,9 +26,9 @@ use Rattle.index_rule.specs.declared.view.View.{View}
 use Rattle.index_rule.specs.Hands.{IsHandOf, Makes, known, opening_of, view}
 use Rattle.index_rule.specs.Moments.{AddsNoEntry}
 use Rattle.index_rule.specs.Rule.{log_after, logged}
-use Rattle.index_rule.proofs.Standing.{at_keyed, at_on, at_role, keeps_key_on, stays_inside}
-use Rattle.index_rule.proofs.RecordStepping.{at_moment, locked_moment, since, state_found, still_at}
-use Rattle.index_rule.proofs.RecordStepping.{same_role, valid_moment, value_found}
+use Rattle.index_rule.proofs.Standing.{at_keyed, at_role, keeps_key_on, stays_inside}
+use Rattle.index_rule.proofs.RecordStepping.{at_moment, locked_moment, state_found, still_at}
+use Rattle.index_rule.proofs.RecordStepping.{valid_moment, value_found}
 use Rattle.index_rule.proofs.Stepping.{known_is, others_only, valid_after}
 
 -- ---- values ----

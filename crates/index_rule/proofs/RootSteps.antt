@@ -107,7 +107,7 @@ slot_by_hand b h side i of can =
 
 -- ---- what others leave ----
 
-root_seen_after-own_only : ChangesOwnOnly root_seen_after
+pub root_seen_after-own_only : ChangesOwnOnly root_seen_after
 root_seen_after-own_only (Enter n) word = refl
 root_seen_after-own_only action word = refl
 

@@ -8,7 +8,7 @@ use Rattle.index_machine.specs.LivePlaces.{history, value_in_map}
 use Rattle.index_rule.specs.declared.board.Board.{Board}
 use Rattle.index_rule.specs.declared.hand.Hand.{Hand}
 use Rattle.index_rule.specs.declared.view.View.{View}
-use Rattle.index_rule.specs.Hands.{IsHandOf, known, opening_of, view}
+use Rattle.index_rule.specs.Hands.{IsHandOf, opening_of, view}
 use Rattle.index_rule.specs.Moments.{IsBetween, IsWithin, AddsNoEntry}
 use Rattle.index_rule.specs.Rule.{IsFollowing, number}
 

@@ -2,7 +2,7 @@ use Rattle.std.proofs.Common.{ℕ, Option, sym, subst}
 use Rattle.atomic_table.specs.Table.{Allows}
 use Rattle.word_layout.specs.Words.{FreeHead}
 use Rattle.index_rule.specs.declared.view.View.{View}
-use Rattle.index_rule.specs.Hands.{opening_of, view}
+use Rattle.index_rule.specs.Hands.{opening_of}
 use Rattle.index_rule.specs.Looks.{Notes}
 use Rattle.index_rule.specs.Rule.{Kept}
 use Rattle.index_rule.proofs.StepKinds.{inside}
