@@ -10,7 +10,9 @@ pub mod Laid
 pub mod Ending
 pub mod FreeSteps
 pub mod Stepping
-mod Standing
-mod LockWords
+pub mod Standing
+pub mod StateForms
+pub mod LockWords
 mod RecordSteps
 mod RootSteps
+pub mod RecordStepping

@@ -14,7 +14,7 @@ use Rattle.index_machine.specs.declared.events.Action.TheVariants.{Unlock}
 use Rattle.index_machine.specs.declared.opening.Opening.{Opening}
 use Rattle.index_machine.specs.Execution.{Execution, event, Without}
 use Rattle.index_machine.specs.Sections.{IsCaller}
-use Rattle.index_machine.specs.Forms.{Form, Blank, Unlocked, Locked, Copied, Redirect, Moved}
+use Rattle.index_machine.specs.Forms.{Form, IsLockedBy, Blank, Unlocked, Locked, Copied, Redirect, Moved}
 use Rattle.index_machine.specs.Forms.{with_lock, with_value, without_lock, made_direct, copied_away}
 use Rattle.index_machine.specs.Forms.{form_after, state_word, last_version, put_value}
 use Rattle.index_machine.specs.Places.{first_version, form}
@@ -193,6 +193,21 @@ locked_word_own o c word (Close q expected) t is may old =
 locked_word_own o c word d t is may old = kept_word o c c word d t (λ z. absurd z) old
 
 -- ---- a lock that is held ----
+
+-- a lock that a hand has and did not take by this action it had before, with this version
+pub locked_before : (o : Opening) (c p b : ℕ) (d : Action) (t : Execution) → (TakesLock d → b ≢ c) →
+    IsLockedBy c (form o p (event b d ∷ t)) → IsLockedBy c (form o p t)
+locked_before o c p b d t other now =
+    let was = lock_is (form o p t) c now.0 now.1
+    (lock_before (first_version o) p b d (form o p t) (c, now.0, now.1) other (ap lock now.4)) in
+    (now.0, now.1, was.0, was.1, was.2)
+
+pub locked_before_on : (o : Opening) (c p : ℕ) (n t : Execution) → Without c n →
+    IsLockedBy c (form o p (n ++ t)) → IsLockedBy c (form o p t)
+locked_before_on o c p [] t out now = now
+locked_before_on o c p (e ∷ n) t out now =
+    locked_before_on o c p n t out.1
+    (locked_before o c p e.by e.action (n ++ t) (λ _. out.0) now)
 
 -- where a caller stands, the lock that it holds is as it left it
 pub locked_on : (o : Opening) (c p : ℕ) (n t : Execution) → Valid o (n ++ t) → Without c n →

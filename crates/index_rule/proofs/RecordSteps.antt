@@ -23,8 +23,8 @@ use Rattle.index_machine.specs.Execution.{Execution, Without}
 use Rattle.index_machine.specs.Words.{limits, store, word}
 use Rattle.index_machine.specs.Sections.{IsCaller, IsKeeper, IsReading}
 use Rattle.index_machine.specs.Rows.{role, role_key}
-use Rattle.index_machine.specs.Forms.{Form, Blank, Unlocked, Locked, Copied, Redirect, Moved}
-use Rattle.index_machine.specs.Forms.{IsLockedBy, is_removed, last_version, state_word}
+use Rattle.index_machine.specs.Forms.{Form, Locked}
+use Rattle.index_machine.specs.Forms.{IsLockedBy, is_removed, state_word}
 use Rattle.index_machine.specs.Forms.{without_lock}
 use Rattle.index_machine.specs.Places.{form}
 use Rattle.index_machine.specs.Reaching.{reached}
@@ -47,56 +47,10 @@ use Rattle.index_rule.specs.Steps.{says_removed, unlock_known, unlock_store}
 use Rattle.index_rule.specs.Steps.{lock_failed, lock_made, state_load, value_load}
 use Rattle.index_rule.specs.Steps.{value_store}
 use Rattle.index_rule.proofs.LockWords.{locked_on}
+use Rattle.index_rule.proofs.StateForms.{forwards_by_word, unlocked_by_word}
 use Rattle.index_rule.proofs.StepKinds.{Tells, by_name, exchanges, loads, stores}
 use Rattle.index_rule.proofs.Standing.{at_keyed, at_on, at_role, keyed_on, keyed_place}
 use Rattle.index_rule.proofs.Standing.{stays_inside}
-
--- ---- what a state word says of the form ----
-
--- a form whose state word is that of a redirect forwards
-forwards_by_word : (f : Form) (to : ℕ) → state_word f ≡ word_of_state (state.Redirect to) →
-    (p : ℕ) × (y : ℕ) × (f ≡ Redirect p y)
-forwards_by_word Blank to e = absurd (omega arith)
-forwards_by_word (Unlocked v true x) to e = absurd (omega arith)
-forwards_by_word (Unlocked v false x) to e = absurd (omega arith)
-forwards_by_word (Locked c v true x y) to e = absurd (omega arith)
-forwards_by_word (Locked c v false x y) to e = absurd (omega arith)
-forwards_by_word (Copied v true x) to e = absurd (omega arith)
-forwards_by_word (Copied v false x) to e = absurd (omega arith)
-forwards_by_word (Redirect p y) to e = (p, y, refl)
-forwards_by_word Moved to e = absurd (omega arith)
-
--- the form is unlocked, and its version can still be raised
-abbrev IsRaisable : Form → Type 0
-IsRaisable f =
-    (version : ℕ) × (removed : Bool) × (value : ℕ) × (f ≡ Unlocked version removed value)
-    × (version < last_version)
-
--- a form that is not blank and has the state word of an unlocked record is unlocked
-unlocked_by_word : (f : Form) (v : ℕ) (r : Bool) → f ≢ Blank → v < last_version →
-    state_word f ≡ word_of_state (state.Direct v false r) → IsRaisable f
-unlocked_by_word Blank v r filled low e = absurd (filled refl)
-unlocked_by_word (Unlocked w s x) v r filled low e = (w, s, x, refl, least w v s r e low)
-  where
-    least : (w v : ℕ) (s r : Bool) →
-        word_of_state (state.Direct w false s) ≡ word_of_state (state.Direct v false r) →
-        v < last_version → w < last_version
-    least w v true true e low = omega arith
-    least w v true false e low = omega arith
-    least w v false true e low = omega arith
-    least w v false false e low = omega arith
-unlocked_by_word (Locked c w true x y) v true filled low e = absurd (omega arith)
-unlocked_by_word (Locked c w true x y) v false filled low e = absurd (omega arith)
-unlocked_by_word (Locked c w false x y) v true filled low e = absurd (omega arith)
-unlocked_by_word (Locked c w false x y) v false filled low e = absurd (omega arith)
-unlocked_by_word (Copied w true x) v true filled low e = absurd (omega arith)
-unlocked_by_word (Copied w true x) v false filled low e = absurd (omega arith)
-unlocked_by_word (Copied w false x) v true filled low e = absurd (omega arith)
-unlocked_by_word (Copied w false x) v false filled low e = absurd (omega arith)
-unlocked_by_word (Redirect p y) v true filled low e = absurd (omega arith)
-unlocked_by_word (Redirect p y) v false filled low e = absurd (omega arith)
-unlocked_by_word Moved v true filled low e = absurd (omega arith)
-unlocked_by_word Moved v false filled low e = absurd (omega arith)
 
 -- ---- conditions, whatever others did ----
 
@@ -133,7 +87,7 @@ follows o c p to t valid caller can e =
       ⊎_elim (λ (z : IsInArrayOf o c p t). z)
           (λ (z : reached c p t ≡ true).
           let f = forwards_by_word (form o p t) to e in
-          absurd ((reached_forms o t valid c p caller z).0 f.0 f.1 f.2)) at.there,
+          absurd ((reached_forms o t valid c p caller z).0 to f.0 f.1)) at.there,
     ))
     (λ (z : IsKeeper o c × HasKey o p t). absurd (let keeper = z.0 in omega arith)) can
 
@@ -164,17 +118,17 @@ may_lock o c p expected t valid at none can hit =
     let keyed = at_keyed o c p t valid at in
     let says = sym ((represented o t valid).states p keyed) ∙ hit in
     let f = unlocked_by_word (form o p t) can.0 can.1 (not_blank o t valid p keyed.0 keyed.1)
-    can.2.raisable (says ∙ can.2.is) in
+    (says ∙ can.2.is) in
     record {
       reading = at.reading;
       there = at;
       keyed = keyed;
       holds_none = none;
-      version = f.0;
-      removed = f.1;
-      value = f.2;
-      unlocked = f.3;
-      raisable = f.4;
+      version = can.0;
+      removed = can.1;
+      value = f.0;
+      unlocked = f.1;
+      raisable = can.2.raisable;
       found_word = says;
     }
 

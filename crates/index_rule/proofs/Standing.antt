@@ -17,6 +17,7 @@ use Rattle.index_machine.specs.RecordConditions.{HasKey, IsAt, IsInArrayOf}
 use Rattle.index_machine.specs.Conditions.{Allowed, Valid}
 use Rattle.index_machine.proofs.Executions.{choice-other}
 use Rattle.index_machine.proofs.Placing.{placed, buffer_row}
+use Rattle.machine_readers.specs.Readers.{KeepsKey}
 use Rattle.machine_readers.proofs.FromOpening.{places_stay, reached_keys, reached_stay}
 use Rattle.machine_readers.proofs.Reached.{reached_on}
 use Rattle.machine_readers.proofs.ReachedForms.{keyed_in_group}
@@ -77,6 +78,15 @@ at_on o c p n t valid stay at =
           inl (z.0, z.1, at_role o c p n t valid stay at ∙ z.2, stands_in_on c z.0 n t stay z.3))
           (λ (z : reached c p t ≡ true). inr (reached_on c p n t stay z)) at.there;
     }
+
+-- and keeps its key, between two of its loads
+pub keeps_key_on : (o : Opening) (c p k : ℕ) (n t : Execution) → Valid o (n ++ t) →
+    StaysInside c n → IsAt o c p t → role_key (role o p t) ≡ Some k → KeepsKey o p k n t
+keeps_key_on o c p k [] t valid stay at e = tt
+keeps_key_on o c p k (a ∷ n) t valid stay at e = (
+  ap role_key (at_role o c p n t valid.1 stay.1 at) ∙ e,
+  keeps_key_on o c p k n t valid.1 stay.1 at e,
+)
 
 -- ---- places of keys ----
 

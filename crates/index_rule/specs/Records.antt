@@ -1,5 +1,5 @@
 -- What the calls on a record ask of a hand, and what an unlock changes and stores.
-use Rattle.std.specs.Prelude.{◌≡◌, ◌⊎◌, ℕ, ◌<◌, Bool, false, cond, Option, Some, None}
+use Rattle.std.specs.Prelude.{◌≡◌, ◌≢◌, ◌⊎◌, ℕ, ◌<◌, Bool, false, cond, Option, Some, None}
 use Rattle.map_model.specs.declared.entries.Change.{Change}
 use Rattle.map_model.specs.declared.entries.Change.TheVariants.{Put, Remove}
 use Rattle.index_machine.specs.declared.opening.Opening.{Opening}
@@ -32,6 +32,11 @@ CanReadSlot o hand side slot t =
 pub record HoldsLock (o : Opening) (hand place : ℕ) (t : Execution) : Type 0 where
   pub there : IsAt o hand place t
   pub locked : IsLockedBy hand (form o place t)
+
+-- the hand holds no version lock but that of this place
+abbrev pub HoldsNoOther : Opening → ℕ → ℕ → Execution → Type 0
+HoldsNoOther o hand place t =
+    (other : ℕ) → place ≢ other → IsLockedBy hand (form o other t) → ⊥
 
 -- the caller may unlock the place, and leave it removed or with its value: the record was live when
 -- it was locked
