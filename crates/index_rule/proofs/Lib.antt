@@ -15,4 +15,5 @@ pub mod StateForms
 pub mod LockWords
 mod RecordSteps
 mod RootSteps
+pub mod Calls
 pub mod RecordStepping
