@@ -1,9 +1,13 @@
--- The words that are laid out for a new board are those with which an execution begins.
+-- The words that are laid out for a new board, before those of its rows.
 use Rattle.std.proofs.Common.{◌≡◌, ◌≢◌, inl, inr, ⊎_elim, ℕ, ◌+◌, ◌-◌, ◌<◌, ◌≤◌, List, [], length}
 use Rattle.std.proofs.Common.{slice_set, refl, sym, ap, ◌∙◌, subst, arith, length-set}
+use Rattle.std.proofs.Common.{Bool, true, false, cond}
+use Rattle.std.specs.Prelude.{◌==◌}
 use mathlib.Core.Logic.{dite}
 use native.Mathlib.Decide.{ℕ_discrete}
 use Rattle.std.proofs.lemmas.Bool.{lt-leb}
+use Rattle.word_layout.specs.declared.headers.HeaderWord.{HeaderWord}
+use Rattle.word_layout.specs.declared.headers.HeaderWord.TheVariants as header
 use Rattle.word_layout.specs.declared.limits.Limits.{Limits}
 use Rattle.word_layout.specs.declared.places.Part.TheVariants.{Key, Value, State, Link}
 use Rattle.word_layout.specs.Limits.{word_count}
@@ -94,6 +98,28 @@ abbrev headed : Opening → List ℕ → List ℕ
 headed o zeros =
     slice_set (rooted o zeros) (address_of (limits o) FreeHead) (row_address (limits o) 0)
 
+-- the table with these limits and no rows
+abbrev pub without_rows : Opening → Opening
+without_rows o =
+    record { layout = o.layout; rows = []; rising = tt; few = omega arith; keys = tt }
+
+-- a choice between a number and itself
+no_choice : (b : Bool) (n : ℕ) → cond b n n ≡ n
+no_choice true n = refl
+no_choice false n = refl
+
+-- all words of its headers are 0
+pub no_header : (o : Opening) (g : ℕ) (h : HeaderWord) →
+    opening_word (without_rows o) (Header g h) ≡ 0
+no_header o g header.Size = no_choice (g == 0) 0
+no_header o g header.Pivot = refl
+no_header o g header.LineError = refl
+no_header o g header.BufferHead = refl
+no_header o g header.Phase = refl
+no_header o g header.Next = refl
+no_header o g header.FirstSpare = refl
+no_header o g header.SecondSpare = refl
+
 -- what the laying does to a table of zeros
 module _ (o : Opening) (zeros linked : List ℕ) (wide : length zeros ≡ word_count (limits o))
     (blank : (w : Word) → IsWord (limits o) w → word_named (limits o) zeros w ≡ 0)
@@ -152,7 +178,8 @@ module _ (o : Opening) (zeros linked : List ℕ) (wide : length zeros ≡ word_c
       let at = inside.2 in
       absurd (omega arith))
 
-  each : (w : Word) → IsWord (limits o) w → word_named (limits o) linked w ≡ opening_word o w
+  each : (w : Word) → IsWord (limits o) w →
+      word_named (limits o) linked w ≡ opening_word (without_rows o) w
   each FreeHead is =
       links.kept FreeHead is
       (λ i lt e. let z : FreeHead ≡ PlaceWord (row_address (limits o) i) Link = e in cc)
@@ -166,7 +193,8 @@ module _ (o : Opening) (zeros linked : List ℕ) (wide : length zeros ≡ word_c
   each (Epoch c) is = untouched (Epoch c) is (λ e. cc) (λ e. cc) (λ i lt e. cc)
   each (SlotPivot s i) is = untouched (SlotPivot s i) is (λ e. cc) (λ e. cc) (λ j lt e. cc)
   each (SlotGroup s i) is = untouched (SlotGroup s i) is (λ e. cc) (λ e. cc) (λ j lt e. cc)
-  each (Header g h) is = untouched (Header g h) is (λ e. cc) (λ e. cc) (λ j lt e. cc)
+  each (Header g h) is =
+      untouched (Header g h) is (λ e. cc) (λ e. cc) (λ j lt e. cc) ∙ sym (no_header o g h)
   each (PlaceWord p Key) is = untouched (PlaceWord p Key) is (λ e. cc) (λ e. cc) (λ j lt e. cc)
   each (PlaceWord p Value) is =
       untouched (PlaceWord p Value) is (λ e. cc) (λ e. cc) (λ j lt e. cc)
@@ -175,7 +203,7 @@ module _ (o : Opening) (zeros linked : List ℕ) (wide : length zeros ≡ word_c
   each (PlaceWord p Link) is =
       ⊎_elim (λ row. link_of_row p row) (λ array. link_of_array p array) is
 
-  pub laid : StandsFor o linked []
+  pub laid : StandsFor (without_rows o) linked []
   laid =
       record {
         wide = links.wide

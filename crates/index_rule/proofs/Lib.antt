@@ -7,6 +7,7 @@ pub mod Opens
 pub mod StepKinds
 pub mod EpochSteps
 pub mod Laid
+pub mod LaidRows
 pub mod Ending
 pub mod FreeSteps
 pub mod Stepping

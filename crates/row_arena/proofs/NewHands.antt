@@ -3,7 +3,7 @@ use Rattle.std.proofs.Common.{◌≡◌, ℕ, ◌+◌, List, [], ◌∷◌, ◌+
 use Rattle.index_machine.specs.declared.opening.Opening.{Opening}
 use Rattle.index_machine.specs.Execution.{Execution}
 use Rattle.index_machine.specs.Rows.{HoldsNone}
-use Rattle.index_machine.proofs.Placing.{unused-held}
+use Rattle.index_machine.proofs.OpeningRows.{opening_role-held}
 use Rattle.index_rule.specs.declared.board.Board.{Board}
 use Rattle.index_rule.specs.declared.hand.Hand.{Hand}
 use Rattle.index_rule.specs.declared.view.View.{View}
@@ -41,4 +41,5 @@ last_of_all b all hs h is new =
 
 -- a hand that made no step holds no row
 pub none_first : (o : Opening) (hand : ℕ) (t : Execution) → t ≡ [] → HoldsNone o hand t
-none_first o hand t e = subst (HoldsNone o hand) (sym e) (λ place held. unused-held held)
+none_first o hand t e =
+    subst (HoldsNone o hand) (sym e) (λ place held. opening_role-held o place hand held)

@@ -87,9 +87,10 @@ mod tests {
 
     fn may_be_shared_by_threads<T: Sync>(_value: &T) {}
 
-    #[test]
-    fn a_new_board_hands_out_its_opening_words(rt: HostRuntime) -> Result<(), Fail> {
-        let limits = Limits {
+    fn small_limits(first_version: u64) -> Limits
+        ensures { result.group_size ≡ 8 }
+    {
+        Limits {
             callers: 3,
             records: 2,
             groups: 2,
@@ -98,9 +99,13 @@ mod tests {
             due: 1,
             help: 1,
             chain: 1,
-            first_version: 0,
-        };
-        let layout = limits.layout()?;
+            first_version,
+        }
+    }
+
+    #[test]
+    fn a_new_board_hands_out_its_opening_words(rt: HostRuntime) -> Result<(), Fail> {
+        let layout = small_limits(0).layout()?;
         let (board, hands) = Board::open(rt.alloc(), &layout, &[])?;
         may_be_shared_by_threads(&board);
         assert_eq!(rt; (board.layout().words(), hands.len()), (97, 4));
@@ -122,6 +127,34 @@ mod tests {
                 _ => 0,
             };
             assert_eq!(rt; words[i], expected, "at {i}");
+        }
+        Ok(())
+    }
+
+    #[test]
+    fn a_board_with_rows_hands_out_their_words_too(rt: HostRuntime) -> Result<(), Fail> {
+        for first_version in [0, 3] {
+            let layout = small_limits(first_version).layout()?;
+            let (board, hands) = Board::open(rt.alloc(), &layout, &[(5, 50), (7, 70)])?;
+            let words = match board.close(rt.alloc(), hands) {
+                Ok(words) => words,
+                Err(_kept) => Vec::new(rt.alloc()),
+            };
+            assert_eq!(rt; words.len(), 97);
+            // The size of group 0; key, value, state and link of the first two places of its array.
+            assert_eq!(rt; words[10], 2);
+            assert_eq!(rt;
+                (words[17], words[18], words[19]),
+                (5, 50, 16 * first_version)
+            );
+            assert_eq!(rt;
+                (words[21], words[22], words[23]),
+                (7, 70, 16 * first_version)
+            );
+            assert_eq!(rt; (words[20], words[24]), (0, 0));
+            for i in 25..words.len() {
+                assert_eq!(rt; words[i], if i == 92 { 93 } else { 0 }, "at {i}");
+            }
         }
         Ok(())
     }

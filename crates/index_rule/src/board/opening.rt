@@ -1,5 +1,6 @@
 //! A board is opened, with a hand for each caller and one for the keeper.
-ghost use Rattle.std.specs.Prelude.{◌≡◌, IfOk, [], length};
+ghost use Rattle.std.specs.Prelude.{◌≡◌, ◌<◌, ◌≤◌, ◌^◌, IfOk, [], length};
+ghost use Rattle.map_model.specs.Map.{IsRising};
 ghost use Rattle.word_layout.specs.Layout.{limits_of};
 ghost use Rattle.index_rule.specs.Rule.{first_view};
 ghost use Rattle.index_rule.specs.Hands.{opening_of};
@@ -14,25 +15,26 @@ use crate::rule::{Place, Words};
 use atomic_table::Table;
 use index_machine::Opening;
 use std::alloc::{AllocError, Global};
+use std::collections::LinkedList;
 use word_layout::Layout;
 
 impl Board {
     /// A board with its hands: one for each caller, by rising numbers, and the keeper's behind
-    /// them.
-    ///
-    /// The index is empty: there are no rows yet to begin with.
+    /// them. The array of group 0 has the rows, by rising key.
     pub fn open(
         alloc: Global,
         layout: &Layout,
         rows: &[(u64, u64)],
     ) -> Result<(Board, Vec<Hand>), AllocError>
-        requires { rows.now ≡ [] }
+        requires rising { IsRising rows.now }
+        requires few { length rows.now ≤ (limits_of layout.now).group_size }
+        ensures rows { IfOk result (λ opened. (opening_of opened.0).rows ≡ rows.now) }
         ensures layout { IfOk result (λ opened. (opening_of opened.0).layout ≡ layout.now) }
         ensures hands { IfOk result (λ opened. HasNewHands opened.0 opened.1.items) }
         ensures all { IfOk result (λ opened. AreAllHands opened.0 opened.1.items) }
     {
-        let opening = Opening { layout: *layout };
-        let laid = laid_words(alloc, &opening)?;
+        let opening = opening_with(alloc, layout, rows)?;
+        let laid = laid_words(alloc, &opening, rows)?;
         let (words, seat): (Words, _) = Table::of_words(alloc, laid.as_slice(), &opening)?;
         let board = Board {
             words,
@@ -75,4 +77,29 @@ impl Board {
         })?;
         Ok(hands)
     }
+}
+
+// The rows once more, as the rule of the table names them.
+fn opening_with(alloc: Global, layout: &Layout, rows: &[(u64, u64)]) -> Result<Opening, AllocError>
+    requires rising { IsRising rows.now }
+    requires few { length rows.now ≤ (limits_of layout.now).group_size }
+    ensures layout { IfOk result (λ opening. opening.layout ≡ layout.now) }
+    ensures rows { IfOk result (λ opening. opening.rows ≡ rows.now) }
+{
+    let mut list = LinkedList::new(alloc);
+    for row in rows {
+        list.push_back((below_2_to_64(row.0), row.1))?;
+    }
+    Ok(Opening {
+        layout: *layout,
+        rows: list,
+    })
+}
+
+// The range of a `u64` as a clause, since the opening asks it of each key.
+fn below_2_to_64(key: u64) -> u64
+    ensures same { result ≡ key }
+    ensures below { result < 2 ^ 64 }
+{
+    key
 }

@@ -7,7 +7,7 @@ use Rattle.index_rule.proofs.board.Board.open.Goals as goal
 
 pub of_words-requires : goal.of_words-requires
 of_words-requires c =
-    let o : Opening = record { layout = c.args.layout.now } in
+    let o : Opening = c.in_ok-opening.opening in
     subst (λ (words : List ℕ). Kept o (opening {S = Unit {0}} words [] (first_view o)))
     (sym c.as_slice.ensures.value)
     (opens o c.in_ok-laid.laid.items c.in_ok-laid.ensures)

@@ -1,11 +1,16 @@
-use Rattle.std.proofs.Common.{◌≡◌, ◌<◌, ℕ, List, length, slice_set, sym, ap, subst, ◌∙◌}
+use Rattle.std.proofs.Common.{[], ◌≡◌, ◌<◌, ℕ, List, length, slice_set, sym, ap, subst, ◌∙◌}
 use Rattle.std.proofs.lemmas.List.{get_or-replicate, length-replicate}
 use Rattle.word_layout.specs.Limits.{word_count}
-use Rattle.word_layout.specs.Words.{Word, IsWord, address_of, word_named}
+use Rattle.word_layout.specs.Words.{Word, Header, IsWord, address_of, word_named}
 use Rattle.word_layout.proofs.WordNames.{address_of-within}
 use Rattle.index_machine.specs.Words.{limits}
-use Rattle.index_rule.specs.Opened.{LinksRows}
-use Rattle.index_rule.proofs.Laid.{laid}
+use Rattle.map_model.specs.Map.{Map}
+use Rattle.word_layout.specs.declared.headers.HeaderWord.TheVariants as header
+use Rattle.word_layout.specs.Headers.{header_word}
+use Rattle.index_rule.specs.Opened.{FillsArray, LinksRows}
+use Rattle.index_rule.specs.Rule.{StandsFor}
+use Rattle.index_rule.proofs.Laid.{laid, without_rows}
+use Rattle.index_rule.proofs.LaidRows.{laid_rows}
 use Rattle.index_rule.proofs.board.laying.laid_words.Goals as goal
 
 pub returns : goal.returns
@@ -23,9 +28,21 @@ returns c =
     (subst (λ (n : ℕ). address_of l w < n) (sym c.words.ensures.count) (address_of-within l w is))
     in
     let to = c.from.ensures ∙ c.row.ensures.address in
-    laid o zeros c.link_rows.new.words.items wide blank
+    let linked : List ℕ = c.link_rows.new.words.items in
+    let new : List ℕ = c.fill_array.new.words.items in
+    let empty : StandsFor (without_rows o) linked [] =
+    laid o zeros linked wide blank
     (subst
-    (λ (z : ℕ × ℕ × ℕ). LinksRows l l.records (slice_set (slice_set zeros z.0 2) z.1 z.2)
-    c.link_rows.new.words.items)
+    (λ (z : ℕ × ℕ × ℕ). LinksRows l l.records (slice_set (slice_set zeros z.0 2) z.1 z.2) linked)
     (λ j. (c.root.ensures.named j, c.free_head.ensures.named j, to j))
     c.link_rows.ensures)
+    in
+    let at : c.header.result ≡ address_of l (Header 0 header.Size) =
+    c.header.ensures.named
+    ∙ ap (λ (i : ℕ). address_of l (Header 0 (header_word i))) c.number.ensures
+    in
+    laid_rows o linked new empty
+    (subst
+    (λ (z : ℕ × Map). FillsArray l z.1 (length z.1) (slice_set linked z.0 (length z.1)) new)
+    (λ j. (at j, c.requires j))
+    c.fill_array.ensures)
