@@ -18,3 +18,4 @@ mod RecordSteps
 mod RootSteps
 pub mod Calls
 pub mod RecordStepping
+pub mod RecordReading

@@ -1,6 +1,6 @@
 -- The steps on a record meet their conditions.
 use Rattle.std.proofs.Common.{◌≡◌, ◌≢◌, ℕ, ◌+◌, ◌<◌, ◌==◌, inl, inr, ⊎_elim, Bool, true}
-use Rattle.std.proofs.Common.{false, cond, Some, [], ◌∷◌, ◌++◌, refl, sym, ap, ◌∙◌, subst, arith, eq-eqb, ne_eqb, ◌%◌, ◌^◌}
+use Rattle.std.proofs.Common.{false, cond, Some, None, [], ◌∷◌, ◌++◌, refl, sym, ap, ◌∙◌, subst, arith, eq-eqb, ne_eqb, ◌%◌, ◌^◌}
 use prog.Atomic.{either}
 use Rattle.std.proofs.Math.Logic.{∥∥₁_elim}
 use Rattle.std.proofs.Props.{props}
@@ -22,12 +22,14 @@ use Rattle.index_machine.specs.declared.opening.Opening.{Opening}
 use Rattle.index_machine.specs.Execution.{Execution, Without}
 use Rattle.index_machine.specs.Words.{limits, store, word}
 use Rattle.index_machine.specs.Sections.{IsCaller, IsKeeper, IsReading}
-use Rattle.index_machine.specs.Rows.{role, role_key}
+use Rattle.index_machine.specs.Rows.{InBuffer, role, role_key}
 use Rattle.index_machine.specs.Forms.{Form, Locked}
 use Rattle.index_machine.specs.Forms.{IsLockedBy, is_removed, state_word}
 use Rattle.index_machine.specs.Forms.{without_lock}
 use Rattle.index_machine.specs.Places.{form}
 use Rattle.index_machine.specs.Reaching.{reached}
+use Rattle.index_machine.specs.Permissions.{IsBufferFor, MayInsertInto}
+use Rattle.index_machine.specs.LivePlaces.{live_place}
 use Rattle.index_machine.specs.RecordConditions.{HasKey, HoldsNoLock, IsAt, IsInArrayOf, MayLookAt}
 use Rattle.index_machine.specs.RecordConditions.{MayFailLock, MayLoadState, MayLoadValue, MayLock}
 use Rattle.index_machine.specs.RecordConditions.{Makes, MayUnlock}
@@ -40,6 +42,7 @@ use Rattle.index_rule.specs.declared.board.Board.{Board}
 use Rattle.index_rule.specs.declared.hand.Hand.{Hand}
 use Rattle.index_rule.specs.declared.view.View.{View}
 use Rattle.index_rule.specs.Hands.{IsHandOf, known, opening_of}
+use Rattle.index_rule.specs.Records.{IsRevivable, Revives, key_at}
 use Rattle.index_rule.specs.Records.{CanSee, MayRelease, change_by, or_zero, unlocked_word}
 use Rattle.index_rule.specs.Records.{value_of}
 use Rattle.index_rule.specs.Rule.{Kept, Does, first_of, word_in}
@@ -192,33 +195,54 @@ says_unlocked f c removed word held e =
     says true n v is = eq-eqb (n % 16) 8 (omega arith)
     says false n v is = ne_eqb (n % 16) 8 (omega arith)
 
+-- what may come to life has the key that the hand knows
+revives_as : (o : Opening) (c p k : ℕ) (t : Execution) → key_at o p t ≡ k → IsRevivable o c p t →
+    (group : ℕ) × (role o p t ≡ InBuffer group k) × MayInsertInto c group t
+    × IsBufferFor o k group t × (live_place o k t ≡ None)
+revives_as o c p k t same can =
+    subst (λ (z : ℕ). (group : ℕ) × (role o p t ≡ InBuffer group z) × MayInsertInto c group t
+    × IsBufferFor o z group t × (live_place o z t ≡ None)) same can
+
 -- what the hand may change by its unlock
-may_unlock : (o : Opening) (c p : ℕ) (removed : Bool) (u t : Execution)
-    (held : IsLockedBy c (form o p u)) → is_removed (form o p u) ≡ false →
-    form o p t ≡ Locked c held.0 held.1 held.2 held.3 → HasKey o p u → role o p t ≡ role o p u →
-    MayUnlock o t c p removed (change_by o c p removed u)
-may_unlock o c p removed u t held live now keyed same =
+may_unlock : (o : Opening) (c p : ℕ) (removed : Bool) (u newer : Execution)
+    (may : MayRelease o c p removed u) → let held = may.holds.locked in let t = newer ++ u in
+    Valid o t → Without c newer → form o p t ≡ Locked c held.0 held.1 held.2 held.3 →
+    HasKey o p u → role o p t ≡ role o p u → MayUnlock o t c p removed (change_by o c p removed u)
+may_unlock o c p removed u newer may valid out now keyed same =
     record {
-      version = held.0;
-      was = held.1;
-      before = held.2;
-      value = held.3;
+      version = may.holds.locked.0;
+      was = may.holds.locked.1;
+      before = may.holds.locked.2;
+      value = may.holds.locked.3;
       holds = now;
       keyed = ap role_key same ∙ (keyed.1 ∙ ap (λ (z : ℕ). Some z) (key removed));
-      makes = makes removed;
-      revives = λ gone. let bad : true ≡ false = sym gone ∙ was_live in cc;
+      makes = makes removed refl;
+      revives = λ gone. ⊎_elim
+          (λ (live : is_removed (form o p u) ≡ false).
+          let bad : true ≡ false = sym gone ∙ was_live live in cc)
+          (λ (revives : Revives o c p removed u).
+          revives_as o c p (key_of (change_by o c p removed u)) (newer ++ u)
+          (ap (λ z. or_zero (role_key z)) same ∙ (ap or_zero keyed.1 ∙ key removed))
+          (revives.revivable newer valid out)) may.live;
     }
   where
-    was_live : held.1 ≡ false
-    was_live = sym (ap is_removed held.4) ∙ live
+    was_live : is_removed (form o p u) ≡ false → may.holds.locked.1 ≡ false
+    was_live live = sym (ap is_removed may.holds.locked.4) ∙ live
 
     key : (r : Bool) → keyed.0 ≡ key_of (change_by o c p r u)
     key true = sym (ap or_zero keyed.1)
     key false = sym (ap or_zero keyed.1)
 
-    makes : (r : Bool) → Makes c held.1 r held.3 (change_by o c p r u)
-    makes true = (refl, refl, was_live)
-    makes false = (refl, refl, ap value_of held.4)
+    makes : (r : Bool) → removed ≡ r →
+        Makes c may.holds.locked.1 r may.holds.locked.3 (change_by o c p r u)
+    makes true e = (
+      refl,
+      refl,
+      ⊎_elim was_live
+          (λ (revives : Revives o c p removed u).
+          let bad : true ≡ false = sym e ∙ revives.kept in cc) may.live,
+    )
+    makes false e = (refl, refl, ap value_of may.holds.locked.4)
 
 -- the action by which the store of an unlocked word is told
 pub unlock_is : (o : Opening) (v : View) (c p word : ℕ) (removed : Bool) → v.numbers ≡ c ∷ [] →
@@ -329,10 +353,10 @@ module _ (o : Opening) (slots id : ℕ) (me : Me (Unit {0}) View) (c : ℕ)
       let held = may.holds.locked in
       let now = locked_now t newer p valid e out at held.0 held.2 held.3 held.1 held.4 in (
         at.reading.caller,
-        may_unlock o c p removed me.0.known t held may.live now
+        subst (λ (z : Execution). MayUnlock o z c p removed (change_by o c p removed me.0.known)) e
+            (may_unlock o c p removed me.0.known newer may before out (ap (form o p) e ∙ now)
             (at_keyed o c p me.0.known (valid_before o newer me.0.known before) at)
-            (ap (role o p) (sym e)
-            ∙ at_role o c p newer me.0.known before (stays_inside c newer out) at),
+            (at_role o c p newer me.0.known before (stays_inside c newer out) at)),
         stored ∙ ap (λ (z : Form). state_word (without_lock removed z)) (held.4 ∙ sym now),
       ))))
 

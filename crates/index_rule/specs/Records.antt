@@ -1,16 +1,19 @@
 -- What the calls on a record ask of a hand, and what an unlock changes and stores.
-use Rattle.std.specs.Prelude.{◌≡◌, ◌≢◌, ◌⊎◌, ℕ, ◌<◌, Bool, false, cond, Option, Some, None}
+use Rattle.std.specs.Prelude.{◌≡◌, ◌≢◌, ◌⊎◌, ℕ, ◌<◌, Bool, false, cond, Option, Some, None, ◌++◌}
 use Rattle.map_model.specs.declared.entries.Change.{Change}
 use Rattle.map_model.specs.declared.entries.Change.TheVariants.{Put, Remove}
 use Rattle.index_machine.specs.declared.opening.Opening.{Opening}
-use Rattle.index_machine.specs.Execution.{Execution}
+use Rattle.index_machine.specs.Execution.{Execution, Without}
 use Rattle.index_machine.specs.Words.{limits}
 use Rattle.index_machine.specs.Sections.{IsKeeper, IsReading}
-use Rattle.index_machine.specs.Rows.{role_key, role}
+use Rattle.index_machine.specs.Rows.{InBuffer, role_key, role}
 use Rattle.index_machine.specs.Forms.{Form, Blank, Unlocked, Locked, Copied, Redirect, Moved}
 use Rattle.index_machine.specs.Forms.{IsLockedBy, is_removed, without_lock, state_word}
 use Rattle.index_machine.specs.Places.{form}
 use Rattle.index_machine.specs.Reaching.{SeesSlot}
+use Rattle.index_machine.specs.Permissions.{IsBufferFor, MayInsertInto}
+use Rattle.index_machine.specs.LivePlaces.{live_place}
+use Rattle.index_machine.specs.Conditions.{Valid}
 use Rattle.index_machine.specs.RecordConditions.{HasKey, IsAt}
 
 -- ---- what a hand can load ----
@@ -38,14 +41,7 @@ abbrev pub HoldsNoOther : Opening → ℕ → ℕ → Execution → Type 0
 HoldsNoOther o hand place t =
     (other : ℕ) → place ≢ other → IsLockedBy hand (form o other t) → ⊥
 
--- the caller may unlock the place, and leave it removed or with its value: the record was live when
--- it was locked
-pub record MayRelease (o : Opening) (hand place : ℕ) (removed : Bool) (t : Execution)
-    : Type 0 where
-  pub holds : HoldsLock o hand place t
-  pub live : is_removed (form o place t) ≡ false
-
--- ---- what an unlock changes ----
+-- ---- keys ----
 
 -- a number, or 0 for none
 abbrev pub or_zero : Option ℕ → ℕ
@@ -55,6 +51,31 @@ or_zero (Some n) = n
 -- the key of a place, or 0 where it has none
 abbrev pub key_at : Opening → ℕ → Execution → ℕ
 key_at o place t = or_zero (role_key (role o place t))
+
+-- ---- what an unlock needs ----
+
+-- the row of a buffer may come to life again: its key belongs there and lives nowhere
+abbrev pub IsRevivable : Opening → ℕ → ℕ → Execution → Type 0
+IsRevivable o hand place t =
+    (group : ℕ) × (role o place t ≡ InBuffer group (key_at o place t))
+    × MayInsertInto hand group t × IsBufferFor o (key_at o place t) group t
+    × (live_place o (key_at o place t) t ≡ None)
+
+-- the unlock brings a removed record to life: whatever others do until then, it may
+pub record Revives (o : Opening) (hand place : ℕ) (removed : Bool) (t : Execution)
+    : Type 0 where
+  pub kept : removed ≡ false
+  pub revivable : (newer : Execution) → Valid o (newer ++ t) → Without hand newer →
+      IsRevivable o hand place (newer ++ t)
+
+-- the caller may unlock the place, and leave it removed or with its value: the record was live when
+-- it was locked, or comes to life
+pub record MayRelease (o : Opening) (hand place : ℕ) (removed : Bool) (t : Execution)
+    : Type 0 where
+  pub holds : HoldsLock o hand place t
+  pub live : (is_removed (form o place t) ≡ false) ⊎ Revives o hand place removed t
+
+-- ---- what an unlock makes ----
 
 -- the value that a form has once it is unlocked
 abbrev pub value_of : Form → ℕ

@@ -138,6 +138,16 @@ mod tests {
         }
     }
 
+    #[test]
+    fn a_lock_is_taken_and_released_with_the_next_version(rt: HostRuntime) {
+        assert_eq!(rt; (locked_word(0), locked_word(24)), (4, 28));
+        assert_eq!(rt;
+            (released_word(0, false), released_word(16, true)),
+            (16, 40)
+        );
+        assert_eq!(rt; released_word(24, false), 32);
+    }
+
     fn direct(version: u64, locked: bool, removed: bool) -> State {
         State::Direct {
             version,
