@@ -31,7 +31,7 @@ use Rattle.index_rule.specs.Rule.{Follows, HasLog, Kept, Knows, StandsFor, numbe
 use Rattle.index_rule.specs.Rule.{first_of}
 use Rattle.index_rule.proofs.Logging.{built_before}
 use Rattle.index_rule.specs.Hands.{IsHandOf, known, opening_of, view}
-use Rattle.index_rule.specs.Moments.{IsBetween}
+use Rattle.index_rule.specs.Moments.{IsBetween, IsWithin, MomentsLieWithin}
 use Rattle.index_rule.specs.Looks.{MayNote, Notes, with_look}
 use Rattle.index_rule.proofs.Steps.{apart_set, is_some, one_opening}
 
@@ -77,18 +77,12 @@ history_grows first later c =
     in
     omega arith
 
--- so is that of a moment of a call, by the execution before the call
-pub moment_grows : (hand : ℕ) (first later moment : Execution) → IsBetween hand first later moment →
-    length (history first) ≤ length (history moment)
-moment_grows hand first later moment within =
-    history_grows first moment (
-      within.3.0 ++ event hand within.0 ∷ within.1,
-      assoc within.3.0 (event hand within.0 ∷ within.1) first ∙ within.3.1,
-    )
-  where
-    assoc : (a b c : Execution) → (a ++ b) ++ c ≡ a ++ (b ++ c)
-    assoc [] b c = refl
-    assoc (e ∷ a) b c = ap (λ (z : Execution). e ∷ z) (assoc a b c)
+-- the moments of a call lie between what its hand knew before and after
+pub moments_within : MomentsLieWithin
+moments_within hand earlier later moment within =
+    let more = history_grows (within.1 ++ earlier) moment within.4 in
+    let before = history_grows earlier (within.1 ++ earlier) (within.1, refl) in
+    (omega arith, history_grows moment later within.5)
 
 -- ---- logs ----
 
@@ -120,7 +114,7 @@ notes o slots id me a start key found moment live within value least s r _ at _ 
     let k = r.known id v at (is_some v.opening o live) in
     let w : View = with_look v moment key found in
     let has : HasLog o w =
-    λ c one. look_more o c v moment key found within.4 value least (k.logged c one)
+    λ c one. look_more o c v moment key found within.5 value least (k.logged c one)
     in
     let knows : Knows o r.execution w =
     record {
@@ -131,6 +125,7 @@ notes o slots id me a start key found moment live within value least s r _ at _ 
       once = k.once;
       hands = k.hands;
       logged = has;
+      heard_logged = k.heard_logged;
     }
     in (
       w,
@@ -150,6 +145,8 @@ notes o slots id me a start key found moment live within value least s r _ at _ 
       record {
         moment = moment;
         within = within;
+        value = λ p of. subst (λ (z : Opening). value_in_map z key moment ≡ found)
+            (one_opening o p (sym live ∙ of)) value;
         is = refl;
         bare = refl;
         following = λ p of. merely (subst (λ (z : Opening). Follows z w)
@@ -174,7 +171,7 @@ least_now b start h key found may =
     let own = follows.logged start.number start.mine in
     let least = end_in_history (opening_map (opening_of b)) start.number (history (known start))
     (view start).log own in
-    let grows = moment_grows start.number (known start) (known h) may.moment may.within in
+    let grows = (moments_within start.number (known start) (known h) may.moment may.within).0 in
     let same : least_place (view h).log ≡ least_place (view start).log =
     ap least_place may.no_entry in
     omega arith)
@@ -187,3 +184,17 @@ notes_look b start h key found slots a of may =
     notes (opening_of b) slots h.seat.id h.seat.me a (view start) key found may.moment of.opened
     (subst (λ (z : ℕ). IsBetween z (known start) (known h) may.moment)
     (sym may.number ∙ sym (ap first_of h.mine)) may.within) may.value (least_now b start h key found may)
+
+-- what the load told is what the call says
+pub noted : (b : Board) (start h : Hand) (x : Me (Unit {0}) View) (key : ℕ) (found : Option ℕ) →
+    IsHandOf b h → MayNote b start h key found → Notes (view start) key found h.seat.me x →
+    (moment : Execution) × IsWithin start h moment
+    × (value_in_map (opening_of b) key moment ≡ found)
+    × (x.0 ≡ with_look (view h) moment key found)
+noted b start h x key found of may told = (
+  told.moment,
+  subst (λ (z : ℕ). IsBetween z (known start) (known h) told.moment)
+      (ap first_of h.mine ∙ may.number) told.within,
+  told.value (opening_of b) of.opened,
+  told.is,
+)

@@ -64,6 +64,7 @@ opens o words stands =
         once = once_counting 0 n;
         hands = λ c h. let r = in_counting c 0 n h in let b = r.1 in omega arith;
         logged = λ c one. record { stand = tt; ordered = tt; complete = refl };
+        heard_logged = tt;
       });
     }
 

@@ -95,6 +95,7 @@ module _ (o : Opening) (id : ℕ) (v : View) (ls rs : List ℕ)
         once = un;
         hands = λ c h. k.hands c (sub c h);
         logged = λ c one. no_calls o c v.known v.log fresh blank;
+        heard_logged = k.heard_logged;
       }
 
   pub splits : v.opening ≡ Some o → v.heard ≡ [] → v.known ≡ [] → v.log ≡ [] →
@@ -361,6 +362,7 @@ joined_knows o t v w valid k g none =
       once = once_both v.numbers w.numbers k.once g.once none;
       hands = λ c h. ⊎_elim (k.hands c) (g.hands c) (in_either c v.numbers w.numbers h);
       logged = joined_logged o t v w valid k g;
+      heard_logged = (g.logged, (k.logged, k.heard_logged));
     }
 
 -- the seat takes in another

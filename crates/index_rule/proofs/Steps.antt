@@ -136,6 +136,7 @@ known_set o t d views id v w c log mine apart at k is has known i u p q =
       once = k.once;
       hands = k.hands;
       logged = subst (HasLog o) is has;
+      heard_logged = tt;
     }))
     (λ (a : (i ≢ id) × (get_elem? views i ≡ some u)).
     let h = known i u a.1 q in
@@ -150,6 +151,7 @@ known_set o t d views id v w c log mine apart at k is has known i u p q =
       once = h.once;
       hands = h.hands;
       logged = h.logged;
+      heard_logged = h.heard_logged;
     })
     (at_set views id i w u p)
 

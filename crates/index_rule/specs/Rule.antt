@@ -52,6 +52,13 @@ abbrev pub HasLog : Opening → View → Type 0
 HasLog o v =
     (hand : ℕ) → v.numbers ≡ hand ∷ [] → IsLogOf (opening_map o) hand (history v.known) v.log
 
+-- so was each one hand that was heard
+abbrev pub AreLogged : Opening → List Heard → Type 0
+AreLogged o [] = Unit {0}
+AreLogged o (h ∷ hs) =
+    ((hand : ℕ) → h.numbers ≡ hand ∷ [] → IsLogOf (opening_map o) hand (history h.known) h.log)
+    × AreLogged o hs
+
 -- the seat knows a beginning of the execution
 pub record Knows (o : Opening) (t : Execution) (v : View) : Type 0 where
   pub opening : v.opening ≡ Some o
@@ -61,6 +68,7 @@ pub record Knows (o : Opening) (t : Execution) (v : View) : Type 0 where
   pub once : AreDistinct v.numbers
   pub hands : (hand : ℕ) → Owns v hand → IsHand o hand
   pub logged : HasLog o v
+  pub heard_logged : AreLogged o v.heard
 
 -- ---- the rule ----
 

@@ -1,7 +1,13 @@
-//! What holds of every execution of the kinds of step that the board has calls for by now. Each
-//! function is a law and does nothing.
+//! What holds of the moments of every call, and of every execution of the kinds of step that the
+//! board has calls for by now. Each function is a law and does nothing.
 ghost use Rattle.index_rule.specs.BuiltLaws.{NoPlaceForwardsYet, ArraysAreAsOpened};
 ghost use Rattle.index_rule.specs.BuiltLaws.{BuffersAreEmptyYet, KeysHaveOnePlace, RootIsAsOpened};
+ghost use Rattle.index_rule.specs.Moments.{MomentsLieWithin};
+
+/// A moment of a call is not before what its hand had seen, nor behind what it knows at the end.
+pub fn moments_lie_within()
+    ensures { MomentsLieWithin }
+{}
 
 /// No place forwards, and no record was copied away.
 pub fn no_place_forwards_yet()

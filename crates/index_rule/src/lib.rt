@@ -19,8 +19,8 @@ mod view;
 pub use board::Board;
 pub use hand::Hand;
 pub use laws::{
-    arrays_are_as_opened, buffers_are_empty_yet, keys_have_one_place, no_place_forwards_yet,
-    root_is_as_opened,
+    arrays_are_as_opened, buffers_are_empty_yet, keys_have_one_place, moments_lie_within,
+    no_place_forwards_yet, root_is_as_opened,
 };
 pub use looks::Sight;
 pub use own_rows::OwnRow;

@@ -7,10 +7,10 @@ use Rattle.map_model.specs.declared.entries.Change.{Change}
 use Rattle.map_model.specs.declared.entries.Entry.{Entry}
 use Rattle.map_model.specs.declared.entries.Entry.TheVariants.{Made, Look}
 use Rattle.map_model.specs.declared.entries.Change.TheVariants as change
-use Rattle.map_model.specs.Map.{Map, IsRising, look, key_of}
+use Rattle.map_model.specs.Map.{Map, IsRising, look, map_after, key_of}
 use Rattle.map_model.specs.Answer.{pair_at}
 use Rattle.map_model.proofs.Pairs.{found-at_one, rising-put, rising-remove}
-use Rattle.map_model.specs.Entry.{IsFound}
+use Rattle.map_model.specs.Entry.{StandsBetween}
 use Rattle.map_model.specs.History.{History, after, caller_of, changes_by}
 use Rattle.map_model.specs.Logs.{before_place, change_at, StandsIn, Log, AllStandIn, IsLogOf}
 use Rattle.map_model.specs.Logs.{least_place, changes_of}
@@ -78,10 +78,11 @@ pub look-stands : (m : Map) (newer h : History) (key : ℕ) (found : Option ℕ)
 look-stands m newer h key found rising e =
     let long = length-append newer h in (
       omega arith,
-      omega arith,
-      subst (λ (z : History × Option ℕ). IsFound (after m z.0) key key (pair_at key z.1))
+      subst
+          (λ (z : History × Option ℕ). StandsBetween (after m z.0)
+          (Look (length h) key key (pair_at key z.1)) (after m z.0))
           (λ i. (sym (before_place-append newer h) i, e i))
-          (found-at_one (after m h) key (rising-after m h rising)),
+          (omega arith, found-at_one (after m h) key (rising-after m h rising), refl),
     )
 
 stands_more : (m : Map) (h : History) (d : Change) (e : Entry) → StandsIn m h e →
@@ -89,15 +90,18 @@ stands_more : (m : Map) (h : History) (d : Change) (e : Entry) → StandsIn m h 
 stands_more m h d (Made place change old) s =
     let below = change_at-below place h change s.0 in (
       change_at-more place d h below ∙ s.0,
-      ap (λ (z : History). look (after m z) (key_of change)) (before_place-more place d h (omega arith))
-          ∙ s.1,
+      (
+        ap (λ (z : History). look (after m z) (key_of change))
+            (before_place-more place d h (omega arith))
+            ∙ s.1.0,
+        refl,
+      ),
     )
 stands_more m h d (Look place lo hi found) s =
     let within = s.0 in (
       omega arith,
-      s.1,
-      subst (λ (z : History). IsFound (after m z) lo hi found)
-          (sym (before_place-more place d h s.0)) s.2,
+      subst (λ (z : History). StandsBetween (after m z) (Look place lo hi found) (after m z))
+          (sym (before_place-more place d h s.0)) s.1,
     )
 
 all_more : (m : Map) (h : History) (d : Change) (log : Log) → AllStandIn m h log →
@@ -127,8 +131,11 @@ changes_end m c h log d l mine =
       stand = (
         (
           change_at-end d h,
-          ap (λ (z : History). look (after m z) (key_of d))
-              (before_place-more (length h) d h (omega arith) ∙ before_place-end h),
+          (
+            ap (λ (z : History). look (after m z) (key_of d))
+                (before_place-more (length h) d h (omega arith) ∙ before_place-end h),
+            refl,
+          ),
         ),
         all_more m h d log l.stand,
       );

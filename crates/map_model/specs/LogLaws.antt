@@ -7,7 +7,7 @@ use Rattle.map_model.specs.Map.{Map, look, key_of}
 use Rattle.map_model.specs.History.{History, after, caller_of}
 use Rattle.map_model.specs.Logs.{Log, StandsIn, IsLogOf, least_place}
 
--- the next entry of a log has its place in the history
+-- the least place that the next entry may have is not behind the end of the history
 abbrev pub LogsEndInTheHistory : Type 0
 LogsEndInTheHistory =
     (m : Map) (caller : ℕ) (h : History) (log : Log) → IsLogOf m caller h log →

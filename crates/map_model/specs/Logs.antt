@@ -5,8 +5,8 @@ use Rattle.std.specs.Prelude.{cond, ◌==◌, nat_lt}
 use Rattle.map_model.specs.declared.entries.Change.{Change}
 use Rattle.map_model.specs.declared.entries.Entry.{Entry}
 use Rattle.map_model.specs.declared.entries.Entry.TheVariants.{Made, Look}
-use Rattle.map_model.specs.Map.{Map, look, key_of}
-use Rattle.map_model.specs.Entry.{IsFound}
+use Rattle.map_model.specs.Map.{Map, map_after}
+use Rattle.map_model.specs.Entry.{StandsBetween}
 use Rattle.map_model.specs.History.{History, after, changes_by}
 
 -- ---- places in a history ----
@@ -21,12 +21,17 @@ unfoldable pub change_at : ℕ → History → Option Change
 change_at place [] = None
 change_at place (c ∷ cs) = cond (length cs == place) (Some c) (change_at place cs)
 
--- the entry is true at its place of the history, from an opening map
+-- the map at a place of the history, from an opening map
+abbrev pub map_at : Map → History → ℕ → Map
+map_at m h place = after m (before_place place h)
+
+-- the entry is true at its place of the history: a change stands there
 abbrev pub StandsIn : Map → History → Entry → Type 0
 StandsIn m h (Made place change old) =
-    (change_at place h ≡ Some change) × (look (after m (before_place place h)) (key_of change) ≡ old)
+    (change_at place h ≡ Some change)
+    × StandsBetween (map_at m h place) (Made place change old) (map_after change (map_at m h place))
 StandsIn m h (Look place lo hi found) =
-    (place ≤ length h) × (lo ≤ hi) × IsFound (after m (before_place place h)) lo hi found
+    (place ≤ length h) × StandsBetween (map_at m h place) (Look place lo hi found) (map_at m h place)
 
 -- ---- logs ----
 

@@ -5,6 +5,7 @@ ghost use Rattle.std.specs.Prelude.{◌≡◌, ◌↔◌, IsOk, IfOk, IfErr, IfS
 ghost use Rattle.word_layout.specs.Limits.{KeepsRules, IsFirstBroken, is_within, rules, word_count};
 
 use crate::layout::Layout;
+use crate::state::LAST_VERSION;
 
 /// How many of each part a table has, and the counts by which the keeper works.
 #[derive(Clone, Copy, Debug, PartialEq, Eq)]
@@ -100,7 +101,7 @@ impl Limits {
             is_within(1, self.due, self.group_size),
             is_within(1, self.help, 1048576),
             is_within(1, self.chain, 4096),
-            self.first_version <= 1152921504606846975,
+            self.first_version <= LAST_VERSION,
             self.word_count() <= 268435456,
         ]
     }

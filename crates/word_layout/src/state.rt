@@ -6,6 +6,9 @@ ghost use Rattle.word_layout.specs.State.{word_of_state, IsWritableState};
 ghost use Rattle.word_layout.specs.State.{IsLockable, IsUnlockedWord};
 ghost use Rattle.word_layout.specs.declared.state.State.TheVariants.{Direct};
 
+/// The greatest version. A record that has it cannot be changed until it is copied to a new group.
+pub const LAST_VERSION: u64 = 1152921504606846975;
+
 /// What the state word of a record says.
 #[derive(Clone, Copy, Debug, PartialEq, Eq)]
 pub enum State {

@@ -27,7 +27,7 @@ impl Board {
         requires may { MayNote self.now start.now.value hand.old key found }
         ensures hand { IsHandOf self.now hand.new }
         ensures number { hand.new.number ≡ hand.old.number }
-        ensures noted { AddsLook start.now.value hand.old key found hand.new }
+        ensures noted { AddsLook self.now start.now.value hand.old key found hand.new }
     {
         let address = self.layout.free_head() as usize;
         self.words

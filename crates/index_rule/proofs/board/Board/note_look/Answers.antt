@@ -6,7 +6,7 @@ use Rattle.index_rule.specs.Hands.{opening_of}
 use Rattle.index_rule.specs.Looks.{Notes}
 use Rattle.index_rule.specs.Rule.{Kept}
 use Rattle.index_rule.proofs.StepKinds.{inside}
-use Rattle.index_rule.proofs.Looking.{notes_look}
+use Rattle.index_rule.proofs.Looking.{noted, notes_look}
 use Rattle.index_rule.proofs.board.Board.note_look.Goals as goal
 
 pub load-requires : goal.load-requires
@@ -23,3 +23,12 @@ load-requires g c =
           (notes_look b start h c.args.key c.args.found _ c.free_head-address.result
           c.requires.hand c.requires.may),
     )
+
+pub returns-clause-noted : goal.returns-clause-noted
+returns-clause-noted g c =
+    let b = c.args.self.now in
+    let h = c.args.hand.now in
+    let start = c.args.start.now.value in
+    noted b start h c.load.new.seat.me c.args.key c.args.found c.requires.hand c.requires.may
+    (subst (λ (z : View × ℕ × Option ℕ). Notes z.0 z.1 z.2 h.seat.me c.load.new.seat.me)
+    (λ i. (c.requires.start i, c.requires.key i, c.requires.found i)) c.load.ensures.2)
