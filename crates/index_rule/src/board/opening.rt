@@ -88,7 +88,7 @@ fn opening_with(alloc: Global, layout: &Layout, rows: &[(u64, u64)]) -> Result<O
 {
     let mut list = LinkedList::new(alloc);
     for row in rows {
-        list.push_back((below_2_to_64(row.0), row.1))?;
+        list.push_back((within_64_bits(row.0), row.1))?;
     }
     Ok(Opening {
         layout: *layout,
@@ -97,7 +97,7 @@ fn opening_with(alloc: Global, layout: &Layout, rows: &[(u64, u64)]) -> Result<O
 }
 
 // The range of a `u64` as a clause, since the opening asks it of each key.
-fn below_2_to_64(key: u64) -> u64
+fn within_64_bits(key: u64) -> u64
     ensures same { result ≡ key }
     ensures below { result < 2 ^ 64 }
 {

@@ -12,8 +12,8 @@ loop-row-preserved c =
     let row : ℕ × ℕ = get_or rows i (0, 0) in
     let more : take (i + 1) rows ≡ take i rows ++ row ∷ [] =
     rw add-one (take-suc rows i (0, 0) (search rules)) in
-    let same : c.below_2_to_64.result ≡ row.0 = c.below_2_to_64.ensures.same in
-    let below : c.below_2_to_64.result < 2 ^ 64 = c.below_2_to_64.ensures.below in
+    let same : c.within_64_bits.result ≡ row.0 = c.within_64_bits.ensures.same in
+    let below : c.within_64_bits.result < 2 ^ 64 = c.within_64_bits.ensures.below in
     let items : c.push_back.new.self ≡ c.loop-row.list ++ row ∷ [] =
     c.in_ok-push_back.ensures.items
     ∙ ap (λ (k : ℕ). c.loop-row.list ++ (k, row.1) ∷ []) same in
