@@ -2,3 +2,4 @@ pub mod Found
 pub mod Told
 pub mod Locked
 pub mod Changed
+pub mod Entering

@@ -9,6 +9,8 @@ mod changing;
 mod finding;
 mod laws;
 mod reading;
+#[cfg(test)]
+mod tests;
 
 pub use answers::{Read, Wrote};
 pub use changing::{kill, update};
