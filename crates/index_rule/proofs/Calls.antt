@@ -1,5 +1,5 @@
 -- The moments of a call that made several steps, and what they left of its hand's log.
-use Rattle.std.proofs.Common.{◌≡◌, ℕ, Option, Some, ◌∷◌, ◌++◌, [], refl, sym, ap, ◌∙◌, subst}
+use Rattle.std.proofs.Common.{◌≡◌, Option, ◌∷◌, ◌++◌, [], refl, sym, ap, ◌∙◌}
 use Rattle.map_model.specs.Logs.{Log}
 use Rattle.index_machine.specs.declared.events.Action.{Action}
 use Rattle.index_machine.specs.declared.opening.Opening.{Opening}

@@ -3,6 +3,7 @@ pub mod Logging
 pub mod Steps
 pub mod Looking
 pub mod Seats
+pub mod Telling
 pub mod Opens
 pub mod StepKinds
 pub mod EpochSteps
