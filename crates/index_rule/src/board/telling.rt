@@ -44,3 +44,6 @@ impl Board {
             .load::<SettlesHeard>(&mut hand.seat, address);
     }
 }
+
+#[cfg(test)]
+mod tests;
