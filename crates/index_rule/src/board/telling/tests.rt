@@ -75,6 +75,7 @@ fn hands_that_told_each_other_step_on(rt: HostRuntime) -> Result<(), Fail> {
     board.store_leave(&mut first);
     board.store_leave(&mut second);
     let_know(&board, &mut second, &mut keeper);
+    let_know(&board, &mut keeper, &mut first);
     assert_eq!(rt; board.load_epoch(&mut keeper, 0), 2);
     assert_eq!(rt; board.load_epoch(&mut keeper, 1), 2);
     Ok(())
