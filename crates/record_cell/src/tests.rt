@@ -1,13 +1,12 @@
 //! A record is read and changed by one hand, under another's lock, and by three hands at once.
 ghost use Rattle.std.specs.Prelude.{◌≡◌, ◌+◌, ◌<◌, false, length};
 ghost use Rattle.std.specs.Vec.Iter.{into_iter_items};
-ghost use Rattle.index_machine.specs.Words.{limits};
 ghost use Rattle.index_machine.specs.Sections.{IsCaller, IsOutside};
 ghost use Rattle.index_rule.specs.Hands.{IsHandOf, known, opening_of};
 ghost use Rattle.index_rule.specs.Opened.{AreNewHands};
 ghost use Rattle.index_rule.specs.Records.{MayRelease};
 ghost use Rattle.record_cell.specs.Finding.{IsReadyAt};
-ghost use Rattle.record_cell.specs.Visits.{HasRow, Rests};
+ghost use Rattle.record_cell.specs.Visits.{HasRow, IsOfThree, Rests};
 
 use super::*;
 use index_rule::{Board, Hand, Swap};
@@ -24,8 +23,7 @@ type Hands = (Hand, Hand, Hand, Hand);
 
 // A board with rows for three keys.
 fn opened(rt: &impl Abort, alloc: Global, first_version: u64) -> (Board, Hands)
-    ensures callers { (limits (opening_of result.0)).callers ≡ 3 }
-    ensures rows { length (opening_of result.0).rows ≡ 3 }
+    ensures three { IsOfThree result.0 }
     ensures first { Rests result.0 0 result.1.0 }
     ensures second { Rests result.0 1 result.1.1 }
     ensures third { Rests result.0 2 result.1.2 }
@@ -78,15 +76,14 @@ fn place_of(board: &Board, number: u32) -> u32
 }
 
 // The caller enters, and comes to group 0 by the root.
-fn enter_at(board: &Board, hand: &mut Hand, place: u32)
+fn enter_at(board: &Board, hand: &mut Hand, _place: u32)
     requires hand { IsHandOf board.now hand.old }
     requires caller { IsCaller (opening_of board.now) hand.old.number }
     requires outside { IsOutside hand.old.number (known hand.old) }
-    requires row { HasRow board.now place }
+    requires row { HasRow board.now _place }
     ensures number { hand.new.number ≡ hand.old.number }
-    ensures ready { IsReadyAt board.now hand.new place }
+    ensures ready { IsReadyAt board.now hand.new _place }
 {
-    let _place = place;
     board.store_enter(hand);
     board.load_root(hand);
     board.load_slot_group(hand, 0, 0);
@@ -151,7 +148,7 @@ fn a_lock_keeps_others_out_until_it_is_released(rt: HostRuntime) {
 }
 
 // How many calls each caller makes.
-const ROUNDS: u32 = 60;
+const ROUNDS: u32 = 600;
 
 // What a caller does in one visit.
 #[derive(Clone, Copy)]
@@ -179,9 +176,9 @@ struct Seen {
 // What the caller does in a round: its updates have values that no other update has.
 fn call_of(caller: u32, round: u32) -> Call
     requires caller { caller < 3 }
-    requires round { round < 60 }
+    requires round { round < 600 }
 {
-    if round == 40 + 5 * caller {
+    if round == 400 + 50 * caller {
         Call::Kill
     } else if round % 2 == 0 {
         Call::Update(u64::from(1000 * (caller + 1) + round))
@@ -193,7 +190,7 @@ fn call_of(caller: u32, round: u32) -> Call
 // The number of the row that the caller visits in a round.
 fn key_of(caller: u32, round: u32) -> u32
     requires caller { caller < 3 }
-    requires round { round < 60 }
+    requires round { round < 600 }
     ensures { result < 3 }
 {
     if caller == 1 {
@@ -242,13 +239,12 @@ fn answered(board: &Board, hand: &mut Hand, place: u32, call: Call) -> Option<St
 }
 
 // The caller enters, makes the call, and leaves.
-fn visited(board: &Board, caller: u32, hand: &mut Hand, place: u32, call: Call) -> Option<Step>
-    requires caller { IsCaller (opening_of board.now) caller }
+fn visited(board: &Board, _caller: u32, hand: &mut Hand, place: u32, call: Call) -> Option<Step>
+    requires caller { IsCaller (opening_of board.now) _caller }
     requires row { HasRow board.now place }
-    requires rests { Rests board.now caller hand.old }
-    ensures { Rests board.now caller hand.new }
+    requires rests { Rests board.now _caller hand.old }
+    ensures { Rests board.now _caller hand.new }
 {
-    let _caller = caller;
     enter_at(board, hand, place);
     let step = answered(board, hand, place, call);
     board.store_leave(hand);
@@ -262,8 +258,7 @@ fn visits(
     caller: u32,
     hand: &mut Hand,
 ) -> Result<Vec<Seen>, AllocError>
-    requires callers { (limits (opening_of board.now)).callers ≡ 3 }
-    requires rows { length (opening_of board.now).rows ≡ 3 }
+    requires three { IsOfThree board.now }
     requires caller { caller < 3 }
     requires rests { Rests board.now caller hand.old }
     ensures { Rests board.now caller hand.new }
@@ -285,8 +280,7 @@ type Visit = (Hand, Result<Vec<Seen>, AllocError>);
 
 // The caller with this hand makes its calls.
 fn visit(board: &Board, alloc: Global, caller: u32, mut hand: Hand) -> Visit
-    requires callers { (limits (opening_of board.now)).callers ≡ 3 }
-    requires rows { length (opening_of board.now).rows ≡ 3 }
+    requires three { IsOfThree board.now }
     requires caller { caller < 3 }
     requires rests { Rests board.now caller hand }
     ensures { Rests board.now caller result.0 }
@@ -302,8 +296,7 @@ fn visit_at_once<R: Threads>(
     alloc: Global,
     callers: (Hand, Hand, Hand),
 ) -> (Visit, (Visit, Visit))
-    requires callers { (limits (opening_of board.now)).callers ≡ 3 }
-    requires rows { length (opening_of board.now).rows ≡ 3 }
+    requires three { IsOfThree board.now }
     requires first { Rests board.now 0 callers.0 }
     requires second { Rests board.now 1 callers.1 }
     requires third { Rests board.now 2 callers.2 }
@@ -315,14 +308,12 @@ fn visit_at_once<R: Threads>(
     thread::join(
         rt,
         move || -> Visit
-            requires callers { (limits (opening_of board.now)).callers ≡ 3 }
-            requires rows { length (opening_of board.now).rows ≡ 3 }
+            requires three { IsOfThree board.now }
             requires rests { Rests board.now 0 first }
             ensures { Rests board.entry.now 0 result.0 }
         { visit(board, alloc, 0, first) },
         move || -> (Visit, Visit)
-            requires callers { (limits (opening_of board.now)).callers ≡ 3 }
-            requires rows { length (opening_of board.now).rows ≡ 3 }
+            requires three { IsOfThree board.now }
             requires second { Rests board.now 1 second }
             requires third { Rests board.now 2 third }
             ensures second { Rests board.entry.now 1 result.0.0 }
@@ -331,14 +322,12 @@ fn visit_at_once<R: Threads>(
             thread::join(
                 rt,
                 move || -> Visit
-                    requires callers { (limits (opening_of board.now)).callers ≡ 3 }
-                    requires rows { length (opening_of board.now).rows ≡ 3 }
+                    requires three { IsOfThree board.now }
                     requires rests { Rests board.now 1 second }
                     ensures { Rests board.entry.now 1 result.0 }
                 { visit(board, alloc, 1, second) },
                 move || -> Visit
-                    requires callers { (limits (opening_of board.now)).callers ≡ 3 }
-                    requires rows { length (opening_of board.now).rows ≡ 3 }
+                    requires three { IsOfThree board.now }
                     requires rests { Rests board.now 2 third }
                     ensures { Rests board.entry.now 2 result.0 }
                 { visit(board, alloc, 2, third) },
@@ -355,7 +344,7 @@ fn words_of(
     callers: (Hand, Hand, Hand),
     keeper: Hand,
 ) -> Vec<u64>
-    requires callers { (limits (opening_of board)).callers ≡ 3 }
+    requires three { IsOfThree board }
     requires first { Rests board 0 callers.0 }
     requires second { Rests board 1 callers.1 }
     requires third { Rests board 2 callers.2 }
@@ -371,18 +360,18 @@ fn words_of(
     }
 }
 
-// Behind which value the key came to which, by a change that took it at this one.
-fn change_from(seen: &[Seen], key: u32, value: Option<u64>) -> Option<Option<u64>> {
+// What the key came to, by a change that took it at this value.
+fn change_from(seen: &[Seen], key: u32, value: u64) -> Option<Option<u64>> {
     for one in seen {
         let step = one.step;
-        if one.key == key && step.before == value && step.behind != value {
+        if one.key == key && step.before == Some(value) && step.behind != step.before {
             return Some(step.behind);
         }
     }
     None
 }
 
-// The values that the key had in turn, by the changes that were seen.
+// The values that the key had in turn, by the changes that were seen. A removal is the last of them.
 fn chain_of(
     alloc: Global,
     seen: &[Seen],
@@ -392,7 +381,7 @@ fn chain_of(
     let mut last = Some(opened);
     let mut chain = vec![in alloc; last]?;
     for _ in 0..seen.len() {
-        let Some(next) = change_from(seen, key, last) else {
+        let Some(next) = last.and_then(|value| change_from(seen, key, value)) else {
             break;
         };
         chain.push(next)?;

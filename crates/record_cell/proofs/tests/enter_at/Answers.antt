@@ -25,4 +25,4 @@ returns-clause-ready c =
     record { caller = c.requires.caller; outside = c.requires.outside } in
     ready_at_row b h c.store_enter.new.hand c.load_root.new.hand _ _ c.requires.hand may
     c.store_enter.ensures c.load_root.ensures c.load_slot_group.new.hand _ c.load_slot_group.ensures
-    c.args.place c.requires.row
+    c.args._place c.requires.row
