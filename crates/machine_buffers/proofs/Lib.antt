@@ -1,0 +1,7 @@
+pub mod NextRows
+pub mod OutOfUse
+pub mod LinkWords
+pub mod LinkingRows
+pub mod Walkable
+pub mod Phases
+pub mod Walks
