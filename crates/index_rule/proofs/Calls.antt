@@ -1,16 +1,12 @@
--- The moments of a call that made several steps, and what they left of its hand's log.
-use Rattle.std.proofs.Common.{◌≡◌, ℕ, Option, Some, ◌∷◌, ◌++◌, [], refl, sym, ap, ◌∙◌, subst}
-use Rattle.map_model.specs.Logs.{Log}
+-- The moments of a call that made several steps.
+use Rattle.std.proofs.Common.{ℕ, ◌∷◌, ◌++◌, [], refl, sym}
 use Rattle.index_machine.specs.declared.events.Action.{Action}
-use Rattle.index_machine.specs.declared.opening.Opening.{Opening}
 use Rattle.index_machine.specs.Execution.{Execution, event, Without, Continues}
 use Rattle.index_machine.proofs.Executions.{continues_same, continues_trans}
 use Rattle.index_rule.specs.declared.board.Board.{Board}
 use Rattle.index_rule.specs.declared.hand.Hand.{Hand}
-use Rattle.index_rule.specs.declared.view.View.{View}
-use Rattle.index_rule.specs.Hands.{IsHandOf, Makes, known, opening_of, view}
-use Rattle.index_rule.specs.Rule.{log_after, logged}
-use Rattle.index_rule.specs.Moments.{IsWithin, AddsNoEntry}
+use Rattle.index_rule.specs.Hands.{IsHandOf, Makes, known}
+use Rattle.index_rule.specs.Moments.{IsWithin}
 use Rattle.index_rule.proofs.Stepping.{known_is, others_only}
 
 -- ---- moments ----
@@ -52,8 +48,6 @@ within_end h k begun = is_within h k (known k) begun (continues_same (known k))
 
 module _ (b : Board) (h k : Hand) (action : Action) (of : IsHandOf b h)
     (m : Makes b h action k) where
-  -- ---- the moment of a step ----
-
   -- what others did before it goes on from what the hand knew
   pub up_to : Continues (known h) (m.acts.0 ++ known h)
   up_to = (m.acts.0, refl)
@@ -63,15 +57,3 @@ module _ (b : Board) (h k : Hand) (action : Action) (of : IsHandOf b h)
 
   pub goes_on : Continues (known h) (known k)
   goes_on = continues_trans (known h) (m.acts.0 ++ known h) (known k) up_to from_there
-
-  -- ---- the log ----
-
-  pub log_is : (view k).log ≡ log_after (opening_of b) (m.acts.0 ++ known h) action (view h).log
-  log_is =
-      ap (λ (z : View). z.log) m.acts.1
-      ∙ ap (λ (z : Option Opening). logged z (m.acts.0 ++ known h) action (view h).log) of.opened
-
-  -- a step that is no change adds no entry
-  pub adds_none : ((t : Execution) (log : Log) → log_after (opening_of b) t action log ≡ log) →
-      AddsNoEntry h k
-  adds_none none = log_is ∙ none (m.acts.0 ++ known h) (view h).log

@@ -16,4 +16,6 @@ pub use layout::Layout;
 pub use limits::{BadLimit, Limits};
 pub use phase::Phase;
 pub use places::{Part, link_word, state_word, value_word};
-pub use state::{LAST_VERSION, State, locked_word, released_word};
+pub use state::{
+    LAST_VERSION, State, locked_word, released_word, says_locked, says_removed, version_in,
+};

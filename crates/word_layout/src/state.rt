@@ -70,6 +70,33 @@ impl State {
     }
 }
 
+/// Whether the word of a record says that its lock is held.
+#[inline]
+pub fn says_locked(word: u64) -> bool
+    ensures { (version : ℕ) (locked removed : Bool) →
+        word_of_state (Direct version locked removed) ≡ word → result ≡ locked }
+{
+    word / 4 % 2 == 1
+}
+
+/// Whether the word of a record says that it is a tombstone.
+#[inline]
+pub fn says_removed(word: u64) -> bool
+    ensures { (version : ℕ) (locked removed : Bool) →
+        word_of_state (Direct version locked removed) ≡ word → result ≡ removed }
+{
+    word / 8 % 2 == 1
+}
+
+/// The version in the word of a record.
+#[inline]
+pub fn version_in(word: u64) -> u64
+    ensures { (version : ℕ) (locked removed : Bool) →
+        word_of_state (Direct version locked removed) ≡ word → result ≡ version }
+{
+    word / 16
+}
+
 /// The word by which an unlocked one is exchanged to take its lock.
 #[inline]
 pub fn locked_word(unlocked: u64) -> u64
@@ -135,6 +162,20 @@ mod tests {
             u64::MAX,
         ] {
             assert_eq!(rt; State::read(word), None, "at {word}");
+        }
+    }
+
+    #[test]
+    fn the_word_of_a_record_says_what_it_is(rt: HostRuntime) {
+        for (word, version, locked, removed) in [
+            (0, 0, false, false),
+            (4, 0, true, false),
+            (120, 7, false, true),
+            (u64::MAX - 3, LAST_VERSION, true, true),
+        ] {
+            assert_eq!(rt; says_locked(word), locked);
+            assert_eq!(rt; says_removed(word), removed);
+            assert_eq!(rt; version_in(word), version);
         }
     }
 

@@ -1,0 +1,4 @@
+pub mod Found
+pub mod Told
+pub mod Locked
+pub mod Changed

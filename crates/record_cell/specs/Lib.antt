@@ -1,0 +1,5 @@
+pub mod Conditions
+pub mod Finding
+pub mod Reads
+pub mod Writes
+pub mod Locking

@@ -1,0 +1,16 @@
+//! One record: it is read, and changed in place under its version lock.
+//!
+//! Every call is tried once and says why it did not come to its end. What forwards is followed, so
+//! a caller sees the record wherever a rebuild has it.
+#![tactic(auto)]
+
+mod answers;
+mod changing;
+mod finding;
+mod laws;
+mod reading;
+
+pub use answers::{Read, Wrote};
+pub use changing::{kill, update};
+pub use laws::gone_is_absent;
+pub use reading::read;
