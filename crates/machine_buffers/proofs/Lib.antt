@@ -4,4 +4,5 @@ pub mod LinkWords
 pub mod LinkingRows
 pub mod Walkable
 pub mod Phases
+pub mod Leave
 pub mod Walks

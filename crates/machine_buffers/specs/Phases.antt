@@ -1,9 +1,10 @@
--- Where a phase word says the phase of its group.
+-- Where a phase word says the phase of its group, and what a caller has that saw it.
 use Rattle.std.specs.Prelude.{◌≡◌, ℕ, true, false, Some, ◌++◌}
 use Rattle.index_machine.specs.declared.opening.Opening.{Opening}
 use Rattle.index_machine.specs.Execution.{Execution}
 use Rattle.index_machine.specs.Sections.{IsCaller, StaysInside}
 use Rattle.index_machine.specs.KeyRanges.{predecessor}
+use Rattle.index_machine.specs.Permissions.{MayInsertInto}
 use Rattle.index_machine.specs.Reaching.{stands_in}
 use Rattle.index_machine.specs.Represents.{has_stale_phase}
 use Rattle.index_machine.specs.Conditions.{Valid}
@@ -28,3 +29,10 @@ TruePhasesStay =
     (o : Opening) (caller group : ℕ) → IsCaller o caller → (newer t : Execution) →
     Valid o (newer ++ t) → StaysInside caller newer → stands_in caller group t ≡ true →
     has_stale_phase group t ≡ false → has_stale_phase group (newer ++ t) ≡ false
+
+-- leave to insert lasts as long as the read section
+abbrev pub LeaveToInsertStays : Type 0
+LeaveToInsertStays =
+    (o : Opening) (caller group : ℕ) → IsCaller o caller → (newer t : Execution) →
+    Valid o (newer ++ t) → StaysInside caller newer → MayInsertInto caller group t →
+    MayInsertInto caller group (newer ++ t)

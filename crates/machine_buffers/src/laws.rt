@@ -1,5 +1,6 @@
 //! What holds after every valid execution. Each function is a law and does nothing.
-ghost use Rattle.machine_buffers.specs.Phases.{PhasesBeforeAreTrue, PhasesOfKeysAreTrue};
+ghost use Rattle.machine_buffers.specs.Phases.{LeaveToInsertStays, PhasesBeforeAreTrue};
+ghost use Rattle.machine_buffers.specs.Phases.{PhasesOfKeysAreTrue};
 ghost use Rattle.machine_buffers.specs.Phases.{TruePhasesStay};
 ghost use Rattle.machine_buffers.specs.Walks.{BuffersBeforeAreWalkable, BuffersOfKeysAreWalkable};
 ghost use Rattle.machine_buffers.specs.Walks.{KeysOfRowsRise, LinksBeforeAKeyDecide};
@@ -60,4 +61,9 @@ pub fn phases_before_are_true()
 /// A phase word goes on to say the phase while a caller stands in the group.
 pub fn true_phases_stay()
     ensures { TruePhasesStay }
+{}
+
+/// Leave to insert that a caller has lasts as long as its read section.
+pub fn leave_to_insert_stays()
+    ensures { LeaveToInsertStays }
 {}
