@@ -1,0 +1,210 @@
+-- The row from a key on, as a row is put among others.
+use Rattle.std.proofs.Common.{◌≡◌, ◌≢◌, ℕ, ◌+◌, ◌<◌, ◌≤◌, ◌⊎◌, inl, inr, ⊎_elim, Some}
+use Rattle.std.proofs.Common.{[], ◌∷◌, refl, sym, ap, ◌∙◌, arith}
+use Rattle.std.proofs.lemmas.Bool.Decides.{nat_tests}
+use mathlib.Core.Logic.{dite}
+use native.Mathlib.Decide.{ℕ_discrete}
+use Rattle.machine_buffers.specs.NextRows.{row_from}
+use Rattle.machine_places.proofs.Forms.{none_some, some_is}
+use Rattle.map_model.proofs.Pairs.{AllAbove}
+use Rattle.map_model.specs.Map.{IsRising, Map, first_from, look, put}
+
+pub less_or_not : (i j : ℕ) → (i < j) ⊎ (j ≤ i)
+less_or_not i j = grind arith
+
+-- ---- what is among the rows ----
+
+pub none_in_empty : {X : Type 0} (k q : ℕ) → look [] k ≡ Some q → X
+unfolding look
+none_in_empty k q e = none_some e
+
+pub look_first : (r : ℕ × ℕ) (rs : Map) → look (r ∷ rs) r.0 ≡ Some r.1
+unfolding look
+look_first r rs = grind (arith, nat_tests)
+
+look_other : (r : ℕ × ℕ) (rs : Map) (k : ℕ) → r.0 ≢ k → look (r ∷ rs) k ≡ look rs k
+unfolding look
+look_other r rs k other = grind (arith, nat_tests)
+
+-- what is found is the first row or another
+found_where : (r : ℕ × ℕ) (rs : Map) (k q : ℕ) → look (r ∷ rs) k ≡ Some q →
+    ((r.0 ≡ k) × (r.1 ≡ q)) ⊎ ((r.0 ≢ k) × (look rs k ≡ Some q))
+found_where r rs k q e =
+    dite (ℕ_discrete r.0 k)
+    (λ (s : r.0 ≡ k).
+    inl (s, some_is (sym (look_first r rs) ∙ (ap (look (r ∷ rs)) s ∙ e))))
+    (λ (n : r.0 ≢ k). inr (n, sym (look_other r rs k n) ∙ e))
+
+-- what is found among rows above a key is above it
+found_above : (a : ℕ) (m : Map) (k q : ℕ) → AllAbove a m → look m k ≡ Some q → a < k
+found_above a [] k q above e = none_in_empty k q e
+found_above a (r ∷ rs) k q above e =
+    ⊎_elim
+    (λ (s : (r.0 ≡ k) × (r.1 ≡ q)). let lt = above.0 in let is = s.0 in omega arith)
+    (λ (s : (r.0 ≢ k) × (look rs k ≡ Some q)). found_above a rs k q above.1 s.1)
+    (found_where r rs k q e)
+
+-- what is found behind the first row is found among all
+pub found_on : (r : ℕ × ℕ) (rs : Map) (k q : ℕ) → IsRising (r ∷ rs) → look rs k ≡ Some q →
+    (r.0 < k) × (look (r ∷ rs) k ≡ Some q)
+found_on r rs k q rising e =
+    let above = found_above r.0 rs k q rising.0 e in
+    (above, look_other r rs k (λ z. omega arith) ∙ e)
+
+-- ---- the first row from a key on ----
+
+from_none : (low : ℕ) → row_from low [] ≡ 0
+unfolding first_from
+from_none low = refl
+
+pub from_here : (r : ℕ × ℕ) (rs : Map) (low : ℕ) → low ≤ r.0 → row_from low (r ∷ rs) ≡ r.1
+unfolding first_from
+from_here r rs low le = grind (arith, nat_tests)
+
+pub from_later : (r : ℕ × ℕ) (rs : Map) (low : ℕ) → r.0 < low →
+    row_from low (r ∷ rs) ≡ row_from low rs
+unfolding first_from
+from_later r rs low lt = grind (arith, nat_tests)
+
+-- none has this key or a greater one
+abbrev pub EndsBelow : Map → ℕ → Type 0
+EndsBelow m low = (i q : ℕ) → look m i ≡ Some q → i < low
+
+-- this row is the first from the key on
+abbrev pub IsFirstFrom : Map → ℕ → ℕ → Type 0
+IsFirstFrom m low place =
+    (i : ℕ) × (look m i ≡ Some place) × (low ≤ i)
+    × ((j q : ℕ) → look m j ≡ Some q → low ≤ j → i ≤ j)
+
+-- it is a row, unless none is left
+pub first_or_none : (m : Map) (low : ℕ) → IsRising m →
+    (EndsBelow m low × (row_from low m ≡ 0)) ⊎ IsFirstFrom m low (row_from low m)
+first_or_none [] low rising = inl ((λ i q e. none_in_empty i q e), from_none low)
+first_or_none (r ∷ rs) low rising = ⊎_elim
+    (λ (lt : r.0 < low). later lt (first_or_none rs low rising.1))
+    (λ (le : low ≤ r.0). inr (
+      r.0,
+      look_first r rs ∙ ap Some (sym (from_here r rs low le)),
+      le,
+      λ j q e l. ⊎_elim
+          (λ (s : (r.0 ≡ j) × (r.1 ≡ q)). let is = s.0 in omega arith)
+          (λ (s : (r.0 ≢ j) × (look rs j ≡ Some q)).
+          let up = (found_on r rs j q rising s.1).0 in omega arith)
+          (found_where r rs j q e),
+    ))
+    (less_or_not r.0 low)
+  where
+    later : r.0 < low →
+        (EndsBelow rs low × (row_from low rs ≡ 0)) ⊎ IsFirstFrom rs low (row_from low rs) →
+        (EndsBelow (r ∷ rs) low × (row_from low (r ∷ rs) ≡ 0))
+        ⊎ IsFirstFrom (r ∷ rs) low (row_from low (r ∷ rs))
+    later lt old = ⊎_elim
+        (λ (z : EndsBelow rs low × (row_from low rs ≡ 0)). inl (
+          λ i q e. ⊎_elim
+              (λ (s : (r.0 ≡ i) × (r.1 ≡ q)). let is = s.0 in omega arith)
+              (λ (s : (r.0 ≢ i) × (look rs i ≡ Some q)). z.0 i q s.1)
+              (found_where r rs i q e),
+          from_later r rs low lt ∙ z.1,
+        ))
+        (λ (z : IsFirstFrom rs low (row_from low rs)). inr (
+          z.0,
+          (found_on r rs z.0 (row_from low rs) rising z.1).1
+              ∙ ap Some (sym (from_later r rs low lt)),
+          z.2,
+          λ j q e l. ⊎_elim
+              (λ (s : (r.0 ≡ j) × (r.1 ≡ q)). let is = s.0 in absurd (omega arith))
+              (λ (s : (r.0 ≢ j) × (look rs j ≡ Some q)). z.3 j q s.1 l)
+              (found_where r rs j q e),
+        ))
+        old
+
+-- ---- a row put among others ----
+
+put_none : (k p : ℕ) → put [] k p ≡ (k, p) ∷ []
+unfolding put
+put_none k p = refl
+
+put_first : (r : ℕ × ℕ) (rs : Map) (k p : ℕ) → k < r.0 → put (r ∷ rs) k p ≡ (k, p) ∷ r ∷ rs
+unfolding put
+put_first r rs k p h = grind (arith, nat_tests)
+
+put_here : (r : ℕ × ℕ) (rs : Map) (k p : ℕ) → r.0 ≡ k → put (r ∷ rs) k p ≡ (k, p) ∷ rs
+unfolding put
+put_here r rs k p h = grind (arith, nat_tests)
+
+put_later : (r : ℕ × ℕ) (rs : Map) (k p : ℕ) → r.0 < k → put (r ∷ rs) k p ≡ r ∷ put rs k p
+unfolding put
+put_later r rs k p h = grind (arith, nat_tests)
+
+-- no row has a key from here to there
+abbrev pub IsGap : Map → ℕ → ℕ → Type 0
+IsGap m low k = (i q : ℕ) → look m i ≡ Some q → (i < low) ⊎ (k < i)
+
+gap_on : (r : ℕ × ℕ) (rs : Map) (low k : ℕ) → IsRising (r ∷ rs) → IsGap (r ∷ rs) low k →
+    IsGap rs low k
+gap_on r rs low k rising gap i q e = gap i q (found_on r rs i q rising e).1
+
+-- three ways in which keys stand
+order : (i j : ℕ) → (i < j) ⊎ ((i ≡ j) ⊎ (j < i))
+order i j = grind arith
+
+-- behind the row that is put the rows are those that were there
+pub from_behind_put : (m : Map) (low k p : ℕ) → k < low →
+    row_from low (put m k p) ≡ row_from low m
+from_behind_put [] low k p lt = rw (put_none k p) (from_later (k, p) [] low lt)
+from_behind_put (r ∷ rs) low k p lt = ⊎_elim
+    (λ (h : k < r.0). rw (put_first r rs k p h) (from_later (k, p) (r ∷ rs) low lt))
+    (λ (z : (k ≡ r.0) ⊎ (r.0 < k)). ⊎_elim
+    (λ (h : k ≡ r.0). rw (put_here r rs k p (sym h))
+    (from_later (k, p) rs low lt ∙ sym (from_later r rs low (omega arith))))
+    (λ (h : r.0 < k). rw (put_later r rs k p h)
+    (from_later r (put rs k p) low (omega arith)
+    ∙ (from_behind_put rs low k p lt ∙ sym (from_later r rs low (omega arith)))))
+    z)
+    (order k r.0)
+
+-- a row put into a gap is the first of it
+pub from_gap_put : (m : Map) (low k p : ℕ) → IsRising m → low ≤ k → IsGap m low k →
+    row_from low (put m k p) ≡ p
+from_gap_put [] low k p rising le gap = rw (put_none k p) (from_here (k, p) [] low le)
+from_gap_put (r ∷ rs) low k p rising le gap = ⊎_elim
+    (λ (h : k < r.0). rw (put_first r rs k p h) (from_here (k, p) (r ∷ rs) low le))
+    (λ (z : (k ≡ r.0) ⊎ (r.0 < k)). ⊎_elim
+    (λ (h : k ≡ r.0). rw (put_here r rs k p (sym h)) (from_here (k, p) rs low le))
+    (λ (h : r.0 < k). rw (put_later r rs k p h) (⊎_elim
+    (λ (lt : r.0 < low). from_later r (put rs k p) low lt
+    ∙ from_gap_put rs low k p rising.1 le (gap_on r rs low k rising gap))
+    (λ (lt : k < r.0). absurd (omega arith))
+    (gap r.0 r.1 (look_first r rs))))
+    z)
+    (order k r.0)
+
+-- where a row stands before the one that is put, that one is the first still
+pub from_before_put : (m : Map) (low k p i q : ℕ) → IsRising m → low ≤ i → i < k →
+    look m i ≡ Some q → row_from low (put m k p) ≡ row_from low m
+from_before_put [] low k p i q rising le lt e = none_in_empty i q e
+from_before_put (r ∷ rs) low k p i q rising le lt e = ⊎_elim
+    (λ (s : (r.0 ≡ i) × (r.1 ≡ q)). let is = s.0 in
+    rw (put_later r rs k p (omega arith))
+    (from_here r (put rs k p) low (omega arith) ∙ sym (from_here r rs low (omega arith))))
+    (λ (s : (r.0 ≢ i) × (look rs i ≡ Some q)).
+    let up = (found_on r rs i q rising s.1).0 in
+    rw (put_later r rs k p (omega arith)) (⊎_elim
+    (λ (h : r.0 < low). from_later r (put rs k p) low h
+    ∙ (from_before_put rs low k p i q rising.1 le lt s.1 ∙ sym (from_later r rs low h)))
+    (λ (h : low ≤ r.0).
+    from_here r (put rs k p) low h ∙ sym (from_here r rs low h))
+    (less_or_not r.0 low)))
+    (found_where r rs i q e)
+
+-- the row from one end of a gap on is that from the other end on
+pub from_over_gap : (m : Map) (low k : ℕ) → IsRising m → low ≤ k → IsGap m low k →
+    row_from (k + 1) m ≡ row_from low m
+from_over_gap [] low k rising le gap = from_none (k + 1) ∙ sym (from_none low)
+from_over_gap (r ∷ rs) low k rising le gap = ⊎_elim
+    (λ (lt : r.0 < low). from_later r rs (k + 1) (omega arith)
+    ∙ (from_over_gap rs low k rising.1 le (gap_on r rs low k rising gap)
+    ∙ sym (from_later r rs low lt)))
+    (λ (lt : k < r.0).
+    from_here r rs (k + 1) (omega arith) ∙ sym (from_here r rs low (omega arith)))
+    (gap r.0 r.1 (look_first r rs))

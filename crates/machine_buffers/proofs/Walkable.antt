@@ -1,0 +1,352 @@
+-- Every buffer is walkable, or its group is out of use; and its links lead from row to row.
+use Rattle.std.proofs.Common.{◌≡◌, ◌≢◌, ℕ, ◌+◌, ◌⊎◌, inl, inr, ⊎_elim, Some, [], ◌∷◌, cond, refl}
+use Rattle.std.proofs.Common.{sym, ap, ◌∙◌, subst, Bool, true, false}
+use Rattle.std.specs.Prelude.{◌==◌}
+use mathlib.Core.Logic.{dite}
+use native.Mathlib.Decide.{ℕ_discrete}
+use Rattle.index_machine.proofs.Executions.{choice-other, choice-same}
+use Rattle.index_machine.proofs.OpeningRows.{opening_role-buffer}
+use Rattle.index_machine.specs.Conditions.{Allowed, Valid}
+use Rattle.index_machine.specs.Execution.{Execution, event}
+use Rattle.index_machine.specs.RebuildConditions.{IsSettled}
+use Rattle.index_machine.specs.Reaching.{stands_in}
+use Rattle.index_machine.specs.Sections.{IsCaller}
+use Rattle.index_machine.specs.KeyRanges.{successor}
+use Rattle.index_machine.specs.Permissions.{IsGone, IsReplaced}
+use Rattle.index_machine.specs.Rows.{InArray, InBuffer, role, role_key}
+use Rattle.index_machine.specs.Words.{word}
+use Rattle.index_machine.specs.declared.events.Action.{Action}
+use Rattle.index_machine.specs.declared.events.Action.TheVariants.{LinkRow, NewGroup, Retire}
+use Rattle.index_machine.specs.declared.events.Action.TheVariants.{StoreHeader}
+use Rattle.index_machine.specs.declared.opening.Opening.{Opening}
+use Rattle.machine_barriers.proofs.Reaches.{may_as}
+use Rattle.machine_buffers.proofs.LinkWords.{LinksBehind, StoresHead, head_stays, link_stays}
+use Rattle.machine_buffers.proofs.LinkingRows.{BuffersHold, head_here, link_of_new, link_of_old}
+use Rattle.machine_buffers.proofs.LinkingRows.{places_here, row_is, row_place, rows_here}
+use Rattle.machine_buffers.proofs.NextRows.{none_in_empty}
+use Rattle.machine_buffers.proofs.OutOfUse.{Begins, begins_or_not, out_on, replaced_out}
+use Rattle.machine_buffers.specs.Groups.{IsOutOfUse}
+use Rattle.machine_buffers.specs.NextRows.{row_from}
+use Rattle.machine_buffers.specs.Walks.{IsWalkable, LinksLeadOn}
+use Rattle.machine_readers.proofs.Roles.{EndsRole, IsLinkOf, role_stays, row_back}
+use Rattle.machine_readers.specs.Buffers.{rows}
+use Rattle.map_model.proofs.Pairs.{rising-put}
+use Rattle.map_model.specs.Map.{IsRising, Map, first_from, key_of, look, put}
+use Rattle.map_model.specs.declared.entries.Change.{Change}
+use Rattle.word_layout.specs.Words.{Header, PlaceWord}
+use Rattle.word_layout.specs.declared.headers.HeaderWord.TheVariants as header
+use Rattle.word_layout.specs.declared.places.Part.TheVariants.{Link}
+
+-- ---- roles ----
+
+-- the action takes this row out of its buffer
+abbrev pub Retires : ℕ → Action → Type 0
+Retires q d = (n : ℕ) × (d ≡ Retire q n)
+
+pub row_on : (o : Opening) (t : Execution) (b : ℕ) (d : Action) (g k q : ℕ) → Allowed o t b d →
+    role o q t ≡ InBuffer g k → (role o q (event b d ∷ t) ≡ InBuffer g k) ⊎ Retires q d
+row_on o t b d g k q may e = ⊎_elim
+    (λ (z : role o q (event b d ∷ t) ≡ role o q t). inl (z ∙ e))
+    (λ (z : EndsRole o t q d). ⊎_elim
+    (λ (w : Retires q d). inr w)
+    (λ (w : (h : ℕ) × (low : ℕ) × (high : ℕ) × (f : ℕ) × (j : ℕ) × (d ≡ NewGroup h low high f)
+    × (role o q t ≡ InArray h j)). let bad : InBuffer g k ≡ InArray w.0 w.4 = sym e ∙ w.6 in cc) z)
+    (role_stays o t b d q k may (ap role_key e))
+
+-- ---- a group that is begun ----
+
+no_rows : (low : ℕ) → row_from low [] ≡ 0
+unfolding first_from
+no_rows low = refl
+
+begun_walkable : (o : Opening) (t : Execution) (b g low high f : ℕ) →
+    Allowed o t b (NewGroup g low high f) →
+    IsWalkable o g (event b (NewGroup g low high f) ∷ t)
+begun_walkable o t b g low high f may = record {
+  head = ⊎_elim
+      (λ (z : word o (event b (NewGroup g low high f) ∷ t) (Header g header.BufferHead)
+      ≡ word o t (Header g header.BufferHead)). z ∙ (may.head_word
+      ∙ sym (ap (row_from 0) empty ∙ no_rows 0)))
+      (λ (z : StoresHead g (NewGroup g low high f)). absurd (never z))
+      (head_stays o t b (NewGroup g low high f) g);
+  standing = λ k q e. none_in_empty k q (ap (λ (y : Map). look y k) (sym empty) ∙ e);
+}
+  where
+    empty : rows g (event b (NewGroup g low high f) ∷ t) ≡ []
+    empty = choice-same g g [] (rows g t) refl
+
+    never : StoresHead g (NewGroup g low high f) → ⊥
+    never z = ⊎_elim
+        (λ (w : (p : ℕ) × (c : Change) × (next : ℕ) × (NewGroup g low high f ≡ LinkRow g p c 0 next)).
+        let bad = w.3 in cc)
+        (λ (w : (value : ℕ) × (NewGroup g low high f ≡ StoreHeader g header.BufferHead value)).
+        let bad = w.1 in cc) z
+
+-- ---- walkable buffers ----
+
+-- no caller stands in the group
+abbrev pub IsEmpty : Opening → ℕ → Execution → Type 0
+IsEmpty o g t = (c : ℕ) → IsCaller o c → stands_in c g t ≡ true → ⊥
+
+-- the buffer is walkable after the action, or its group is out of use then, and was empty before
+abbrev pub StaysWalkable : Opening → Execution → ℕ → Action → ℕ → Type 0
+StaysWalkable o t b d g =
+    IsWalkable o g (event b d ∷ t) ⊎ (IsOutOfUse o g (event b d ∷ t) × IsEmpty o g t)
+
+-- the buffer stays walkable where its rows are those that were there, and stay
+walk_kept : (o : Opening) (t : Execution) (b : ℕ) (d : Action) (g : ℕ) → Valid o t →
+    Allowed o t b d → rows g (event b d ∷ t) ≡ rows g t → IsWalkable o g t →
+    ((p next : ℕ) (c : Change) → d ≡ LinkRow g p c 0 next → ⊥) →
+    ((k q : ℕ) → role o q t ≡ InBuffer g k → role o q (event b d ∷ t) ≡ InBuffer g k) →
+    StaysWalkable o t b d g
+walk_kept o t b d g valid may same w apart stay = ⊎_elim
+    (λ (z : word o (event b d ∷ t) (Header g header.BufferHead)
+    ≡ word o t (Header g header.BufferHead)). inl (record {
+      head = z ∙ (w.head ∙ ap (row_from 0) (sym same));
+      standing = λ k q e. stay k q (w.standing k q (ap (λ (y : Map). look y k) (sym same) ∙ e));
+    }))
+    (λ (z : StoresHead g d). ⊎_elim
+    (λ (y : (p : ℕ) × (c : Change) × (next : ℕ) × (d ≡ LinkRow g p c 0 next)).
+    absurd (apart y.0 y.2 y.1 y.3))
+    (λ (y : (value : ℕ) × (d ≡ StoreHeader g header.BufferHead value)).
+    let r = refilled y.0 y.1 in
+    inr (out_on o t b d g valid may r.0 (λ s. let bad = sym y.1 ∙ s.3 in cc), r.1)) z)
+    (head_stays o t b d g)
+  where
+    refilled : (value : ℕ) → d ≡ StoreHeader g header.BufferHead value →
+        IsOutOfUse o g t × IsEmpty o g t
+    refilled value e = let m = may_as o t b d (StoreHeader g header.BufferHead value) e may in
+        ⊎_elim
+        (λ (z : IsGone o g t × IsSettled o g t × ((k : ℕ) → successor k t ≢ Some g)). (
+          record { unowned = m.unowned; unawaited = z.2; settled = z.1 },
+          z.0.empty,
+        ))
+        (λ z. absurd z.1) m.stage
+
+walk_link : (o : Opening) (t : Execution) (b h p : ℕ) (c : Change) (before next : ℕ) →
+    Valid o t → Allowed o t b (LinkRow h p c before next) → BuffersHold o t → (g : ℕ) →
+    IsWalkable o g t → StaysWalkable o t b (LinkRow h p c before next) g
+walk_link o t b h p c before next valid may old g w = dite (ℕ_discrete h g)
+    (λ (z : h ≡ g). inl (subst (λ (y : ℕ). IsWalkable o y T) z here))
+    (λ (n : h ≢ g). walk_kept o t b d g valid may
+    (choice-other h g (put (rows g t) (key_of c) p) (rows g t) n) w
+    (λ p next c e. n (linked e))
+    (λ k q e. ⊎_elim (λ (z : role o q T ≡ InBuffer g k). z)
+    (λ (z : Retires q d). let bad = z.1 in cc) (row_on o t b d g k q may e)))
+  where
+    d : Action
+    d = LinkRow h p c before next
+
+    T : Execution
+    T = event b (LinkRow h p c before next) ∷ t
+
+    linked : {p' next' : ℕ} {c' : Change} → LinkRow h p c before next ≡ LinkRow g p' c' 0 next' →
+        h ≡ g
+    linked e = cc
+
+    same : rows h T ≡ put (rows h t) (key_of c) p
+    same = choice-same h h (put (rows h t) (key_of c) p) (rows h t) refl
+
+    stands : (k q : ℕ) → ((k ≡ key_of c) × (p ≡ q)) ⊎ (role o q t ≡ InBuffer h k) →
+        role o q T ≡ InBuffer h k
+    stands k q there = ⊎_elim
+        (λ (z : (k ≡ key_of c) × (p ≡ q)).
+        choice-same p q (InBuffer h (key_of c)) (role o q t) z.1
+        ∙ ap (λ (y : ℕ). InBuffer h y) (sym z.0))
+        (λ (z : role o q t ≡ InBuffer h k).
+        ⊎_elim (λ (w : role o q T ≡ InBuffer h k). w)
+        (λ (w : Retires q d). let bad = w.1 in cc) (row_on o t b d h k q may z)) there
+
+    here : IsWalkable o h T
+    here = record {
+      head = head_here o t b h p c before next valid may old ∙ ap (row_from 0) (sym same);
+      standing = λ k q e. stands k q (rows_here o t b h p c before next valid may old k q
+          (ap (λ (y : Map). look y k) (sym same) ∙ e));
+    }
+
+walk_retire : (o : Opening) (t : Execution) (b q next : ℕ) → Valid o t →
+    Allowed o t b (Retire q next) → (g : ℕ) → IsWalkable o g t →
+    StaysWalkable o t b (Retire q next) g
+walk_retire o t b q next valid may g w =
+    let m = may.where_it_is in
+    dite (ℕ_discrete m.0 g)
+    (λ (z : m.0 ≡ g). let r = subst (λ (y : ℕ). IsReplaced o y t) z m.3 in
+    inr (
+      out_on o t b (Retire q next) g valid may (replaced_out o t g valid r)
+          (λ s. let bad = s.3 in cc),
+      (r.2 g r.1).empty,
+    ))
+    (λ (n : m.0 ≢ g). walk_kept o t b (Retire q next) g valid may refl w
+    (λ p next c e. let bad = e in cc)
+    (λ k p e. ⊎_elim (λ (z : role o p (event b (Retire q next) ∷ t) ≡ InBuffer g k). z)
+    (λ (z : Retires p (Retire q next)).
+    absurd (n (row_is (sym m.2 ∙ (ap (λ (y : ℕ). role o y t) (same z.1) ∙ e))).0))
+    (row_on o t b (Retire q next) g k p may e)))
+  where
+    same : {p n : ℕ} → Retire q next ≡ Retire p n → q ≡ p
+    same e = cc
+
+walk_else : (o : Opening) (t : Execution) (b : ℕ) (d : Action) → Valid o t → Allowed o t b d →
+    ((g : ℕ) → rows g (event b d ∷ t) ≡ rows g t) →
+    ((g p next : ℕ) (c : Change) → d ≡ LinkRow g p c 0 next → ⊥) →
+    ((q n : ℕ) → d ≡ Retire q n → ⊥) → (g : ℕ) → IsWalkable o g t →
+    StaysWalkable o t b d g
+walk_else o t b d valid may same apart stays g w =
+    walk_kept o t b d g valid may (same g) w (apart g)
+    (λ k q e. ⊎_elim (λ (z : role o q (event b d ∷ t) ≡ InBuffer g k). z)
+    (λ (z : Retires q d). absurd (stays q z.0 z.1)) (row_on o t b d g k q may e))
+
+walk_new : (o : Opening) (t : Execution) (b h low high f : ℕ) → Valid o t →
+    Allowed o t b (NewGroup h low high f) → (g : ℕ) → IsWalkable o g t →
+    StaysWalkable o t b (NewGroup h low high f) g
+walk_new o t b h low high f valid may g w = dite (ℕ_discrete h g)
+    (λ (z : h ≡ g). inl (subst
+    (λ (y : ℕ). IsWalkable o y (event b (NewGroup h low high f) ∷ t)) z
+    (begun_walkable o t b h low high f may)))
+    (λ (n : h ≢ g). walk_kept o t b (NewGroup h low high f) g valid may
+    (choice-other h g [] (rows g t) n) w (λ p next c e. let bad = e in cc)
+    (λ k q e. ⊎_elim
+    (λ (z : role o q (event b (NewGroup h low high f) ∷ t) ≡ InBuffer g k). z)
+    (λ (z : Retires q (NewGroup h low high f)). let bad = z.1 in cc)
+    (row_on o t b (NewGroup h low high f) g k q may e)))
+
+pub walk_on : (o : Opening) (t : Execution) (b : ℕ) (d : Action) → Valid o t →
+    Allowed o t b d → BuffersHold o t → (g : ℕ) → IsWalkable o g t → StaysWalkable o t b d g
+walk_on o t b (LinkRow h p c before next) valid may old g w =
+    walk_link o t b h p c before next valid may old g w
+walk_on o t b (Retire q next) valid may old g w = walk_retire o t b q next valid may g w
+walk_on o t b (NewGroup h low high f) valid may old g w =
+    walk_new o t b h low high f valid may g w
+walk_on o t b d valid may old g w = walk_else o t b d valid may (λ g. refl)
+    (λ g p next c e. let bad = e in cc) (λ q n e. let bad = e in cc) g w
+
+walk_step : (o : Opening) (t : Execution) (b : ℕ) (d : Action) → Valid o t → Allowed o t b d →
+    BuffersHold o t → (g : ℕ) →
+    IsWalkable o g (event b d ∷ t) ⊎ IsOutOfUse o g (event b d ∷ t)
+walk_step o t b d valid may old g = ⊎_elim
+    (λ (w : IsWalkable o g t). ⊎_elim (λ (z : IsWalkable o g (event b d ∷ t)). inl z)
+    (λ (z : IsOutOfUse o g (event b d ∷ t) × IsEmpty o g t). inr z.0)
+    (walk_on o t b d valid may old g w))
+    (λ (out : IsOutOfUse o g t). ⊎_elim
+    (λ (z : Begins g d). inl (subst (λ (y : Action). IsWalkable o g (event b y ∷ t)) (sym z.3)
+    (begun_walkable o t b g z.0 z.1 z.2 (may_as o t b d (NewGroup g z.0 z.1 z.2) z.3 may))))
+    (λ (never : Begins g d → ⊥). inr (out_on o t b d g valid may out never))
+    (begins_or_not g d)) (old.walkable g)
+
+-- ---- links ----
+
+links_new : (o : Opening) (t : Execution) (b h p : ℕ) (c : Change) (before next : ℕ) →
+    Valid o t → Allowed o t b (LinkRow h p c before next) → BuffersHold o t →
+    LinksLeadOn o (event b (LinkRow h p c before next) ∷ t)
+links_new o t b h p c before next valid may old g j q e = ⊎_elim
+    (λ (z : role o q t ≡ InBuffer g j). dite (ℕ_discrete h g)
+    (λ (s : h ≡ g). at_group s (link_of_old o t b h p c before next valid may old j q
+    (z ∙ ap (λ (y : ℕ). InBuffer y j) (sym s))))
+    (λ (n : h ≢ g). elsewhere n z))
+    (λ (z : IsLinkOf g q j d). let s = link_is z.3 in
+    at_group s.0 (subst (λ (y : ℕ). word o T (PlaceWord y Link)
+    ≡ row_from (j + 1) (put (rows h t) (key_of c) p)) s.1
+    (subst (λ (y : ℕ). word o T (PlaceWord p Link)
+    ≡ row_from (y + 1) (put (rows h t) (key_of c) p)) (ap key_of s.2 ∙ z.4)
+    (link_of_new o t b h p c before next valid may old))))
+    (row_back o t b d q g j e)
+  where
+    d : Action
+    d = LinkRow h p c before next
+
+    T : Execution
+    T = event b (LinkRow h p c before next) ∷ t
+
+    link_is : {a r u v : ℕ} {c' : Change} → LinkRow h p c before next ≡ LinkRow a r c' u v →
+        (h ≡ a) × (p ≡ r) × (c ≡ c')
+    link_is e = (cc, cc, cc)
+
+    at_group : h ≡ g → word o T (PlaceWord q Link) ≡ row_from (j + 1) (put (rows h t) (key_of c) p) →
+        word o T (PlaceWord q Link) ≡ row_from (j + 1) (rows g T)
+    at_group s w = w ∙ ap (row_from (j + 1))
+        (ap (λ (y : ℕ). put (rows y t) (key_of c) p) s
+        ∙ sym (choice-same h g (put (rows g t) (key_of c) p) (rows g t) s))
+
+    behind_is : {a r u : ℕ} {c' : Change} → LinkRow h p c before next ≡ LinkRow a r c' q u →
+        before ≡ q
+    behind_is e = cc
+
+    elsewhere : h ≢ g → role o q t ≡ InBuffer g j →
+        word o T (PlaceWord q Link) ≡ row_from (j + 1) (rows g T)
+    elsewhere n z = ⊎_elim
+        (λ (w : word o T (PlaceWord q Link) ≡ word o t (PlaceWord q Link)).
+        w ∙ (old.links g j q z ∙ ap (row_from (j + 1))
+        (sym (choice-other h g (put (rows g t) (key_of c) p) (rows g t) n))))
+        (λ (w : LinksBehind q d). let is = behind_is w.4 in ⊎_elim
+        (λ (y : before ≡ 0). absurd (row_place o t g j q valid z (sym is ∙ y)))
+        (λ (y : (i : ℕ) × (role o before t ≡ InBuffer h i)).
+        absurd (n (row_is (sym y.1 ∙ (ap (λ (x : ℕ). role o x t) is ∙ z))).0))
+        may.behind)
+        (link_stays o t b d q j may (ap role_key z))
+
+links_else : (o : Opening) (t : Execution) (b : ℕ) (d : Action) → Allowed o t b d →
+    BuffersHold o t →
+    ((g j q : ℕ) → role o q t ≡ InBuffer g j → rows g (event b d ∷ t) ≡ rows g t) →
+    ((h p u v : ℕ) (c : Change) → d ≡ LinkRow h p c u v → ⊥) → LinksLeadOn o (event b d ∷ t)
+links_else o t b d may old same never g j q e = ⊎_elim
+    (λ (z : role o q t ≡ InBuffer g j). ⊎_elim
+    (λ (w : word o (event b d ∷ t) (PlaceWord q Link) ≡ word o t (PlaceWord q Link)).
+    w ∙ (old.links g j q z ∙ ap (row_from (j + 1)) (sym (same g j q z))))
+    (λ (w : LinksBehind q d). absurd (never w.0 w.1 q w.3 w.2 w.4))
+    (link_stays o t b d q j may (ap role_key z)))
+    (λ (z : IsLinkOf g q j d). absurd (never g q z.1 z.2 z.0 z.3))
+    (row_back o t b d q g j e)
+
+links_step : (o : Opening) (t : Execution) (b : ℕ) (d : Action) → Valid o t → Allowed o t b d →
+    BuffersHold o t → LinksLeadOn o (event b d ∷ t)
+links_step o t b (LinkRow h p c before next) valid may old =
+    links_new o t b h p c before next valid may old
+links_step o t b (NewGroup h low high f) valid may old =
+    links_else o t b (NewGroup h low high f) may old
+    (λ g j q e. choice-other h g [] (rows g t)
+    (λ z. may.no_row q j (e ∙ ap (λ (y : ℕ). InBuffer y j) (sym z))))
+    (λ h p u v c e. let bad = e in cc)
+links_step o t b d valid may old =
+    links_else o t b d may old (λ g j q e. refl) (λ h p u v c e. let bad = e in cc)
+
+-- ---- keys and places ----
+
+rising_if : (w : Bool) (m n : Map) → IsRising m → IsRising n → IsRising (cond w m n)
+rising_if true m n r s = r
+rising_if false m n r s = s
+
+rising_step : (o : Opening) (t : Execution) (b : ℕ) (d : Action) → BuffersHold o t → (g : ℕ) →
+    IsRising (rows g (event b d ∷ t))
+rising_step o t b (LinkRow h p c before next) old g =
+    rising_if (h == g) (put (rows g t) (key_of c) p) (rows g t)
+    (rising-put (rows g t) (key_of c) p (old.rising g)) (old.rising g)
+rising_step o t b (NewGroup h low high f) old g =
+    rising_if (h == g) [] (rows g t) tt (old.rising g)
+rising_step o t b d old g = old.rising g
+
+places_step : (o : Opening) (t : Execution) (b : ℕ) (d : Action) → Valid o t → Allowed o t b d →
+    BuffersHold o t → (g k q : ℕ) → look (rows g (event b d ∷ t)) k ≡ Some q → q ≢ 0
+places_step o t b (LinkRow h p c before next) valid may old g k q e =
+    places_here o t b h p c before next valid may old g k q e
+places_step o t b (NewGroup h low high f) valid may old g k q e = dite (ℕ_discrete h g)
+    (λ (z : h ≡ g). none_in_empty k q (ap (λ (y : Map). look y k)
+    (sym (choice-same h g [] (rows g t) z)) ∙ e))
+    (λ (n : h ≢ g). old.places g k q (ap (λ (y : Map). look y k)
+    (sym (choice-other h g [] (rows g t) n)) ∙ e))
+places_step o t b d valid may old g k q e = old.places g k q e
+
+-- ---- all buffers ----
+
+pub buffers_hold : (o : Opening) (t : Execution) → Valid o t → BuffersHold o t
+buffers_hold o [] valid = record {
+  places = λ g k q e. none_in_empty k q e;
+  rising = λ g. tt;
+  walkable = λ g. inl (record { head = sym (no_rows 0); standing = λ k q e. none_in_empty k q e });
+  links = λ g k q e. absurd (opening_role-buffer o q g k e);
+}
+buffers_hold o (e ∷ t) valid = let old = buffers_hold o t valid.1 in record {
+  places = places_step o t e.by e.action valid.1 valid.0 old;
+  rising = rising_step o t e.by e.action old;
+  walkable = walk_step o t e.by e.action valid.1 valid.0 old;
+  links = links_step o t e.by e.action valid.1 valid.0 old;
+}

@@ -1,0 +1,4 @@
+pub mod NextRows
+pub mod Groups
+pub mod Walks
+pub mod Phases

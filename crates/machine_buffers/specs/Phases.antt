@@ -1,0 +1,38 @@
+-- Where a phase word says the phase of its group, and what a caller has that saw it.
+use Rattle.std.specs.Prelude.{◌≡◌, ℕ, true, false, Some, ◌++◌}
+use Rattle.index_machine.specs.declared.opening.Opening.{Opening}
+use Rattle.index_machine.specs.Execution.{Execution}
+use Rattle.index_machine.specs.Sections.{IsCaller, StaysInside}
+use Rattle.index_machine.specs.KeyRanges.{predecessor}
+use Rattle.index_machine.specs.Permissions.{MayInsertInto}
+use Rattle.index_machine.specs.Reaching.{stands_in}
+use Rattle.index_machine.specs.Represents.{has_stale_phase}
+use Rattle.index_machine.specs.Conditions.{Valid}
+use Rattle.machine_buffers.specs.Groups.{Answers}
+
+-- the phase word of a group that answers for a key, or that is a key's new group, is not stale
+abbrev pub PhasesOfKeysAreTrue : Type 0
+PhasesOfKeysAreTrue =
+    (o : Opening) (t : Execution) → Valid o t → (group : ℕ) → Answers o group t →
+    has_stale_phase group t ≡ false
+
+-- nor that of the group that had a key before, while a caller stands there
+abbrev pub PhasesBeforeAreTrue : Type 0
+PhasesBeforeAreTrue =
+    (o : Opening) (t : Execution) → Valid o t → (caller group k : ℕ) → IsCaller o caller →
+    stands_in caller group t ≡ true → predecessor o k t ≡ Some group →
+    has_stale_phase group t ≡ false
+
+-- one that is not stale stays so while a caller stands in the group
+abbrev pub TruePhasesStay : Type 0
+TruePhasesStay =
+    (o : Opening) (caller group : ℕ) → IsCaller o caller → (newer t : Execution) →
+    Valid o (newer ++ t) → StaysInside caller newer → stands_in caller group t ≡ true →
+    has_stale_phase group t ≡ false → has_stale_phase group (newer ++ t) ≡ false
+
+-- leave to insert lasts as long as the read section
+abbrev pub LeaveToInsertStays : Type 0
+LeaveToInsertStays =
+    (o : Opening) (caller group : ℕ) → IsCaller o caller → (newer t : Execution) →
+    Valid o (newer ++ t) → StaysInside caller newer → MayInsertInto caller group t →
+    MayInsertInto caller group (newer ++ t)

@@ -1,0 +1,105 @@
+-- What a walk along the link words of a buffer meets.
+--
+-- The fact to remember: a link before a key that leads to no row, or to one with a greater key, says
+-- that the key had no row when the link was loaded.
+use Rattle.std.specs.Prelude.{◌≡◌, ◌⊎◌, ℕ, ◌<◌, true, Some, None, ◌++◌}
+use Rattle.map_model.specs.Map.{IsRising, look}
+use Rattle.word_layout.specs.declared.headers.HeaderWord.TheVariants as header
+use Rattle.word_layout.specs.declared.places.Part.TheVariants as part
+use Rattle.word_layout.specs.Words.{Header, PlaceWord}
+use Rattle.index_machine.specs.declared.opening.Opening.{Opening}
+use Rattle.index_machine.specs.Execution.{Execution}
+use Rattle.index_machine.specs.Words.{word, link_behind}
+use Rattle.index_machine.specs.Sections.{IsCaller, StaysInside}
+use Rattle.index_machine.specs.Rows.{InBuffer, role}
+use Rattle.index_machine.specs.KeyRanges.{predecessor}
+use Rattle.index_machine.specs.Reaching.{stands_in}
+use Rattle.index_machine.specs.RecordConditions.{IsLinkInto}
+use Rattle.index_machine.specs.Conditions.{Valid}
+use Rattle.machine_readers.specs.Buffers.{rows}
+use Rattle.machine_buffers.specs.NextRows.{first_row, next_row_behind}
+use Rattle.machine_buffers.specs.Groups.{Answers}
+
+-- ---- rows ----
+
+-- the link of a row leads to the row with the next key, or to none
+abbrev pub LinksLeadOn : Opening → Execution → Type 0
+LinksLeadOn o t =
+    (group k place : ℕ) → role o place t ≡ InBuffer group k →
+    word o t (PlaceWord place part.Link) ≡ next_row_behind k (rows group t)
+
+-- a walk through the buffer meets its rows: the head leads to the first of them, and all that were
+-- linked stand in the buffer
+pub record IsWalkable (o : Opening) (group : ℕ) (t : Execution) : Type 0 where
+  pub head : word o t (Header group header.BufferHead) ≡ first_row (rows group t)
+  pub standing : (k place : ℕ) → look (rows group t) k ≡ Some place →
+      role o place t ≡ InBuffer group k
+
+-- ---- links ----
+
+-- the link behind this place stands before the key: it is the head, or that of a row with a smaller
+-- key
+abbrev pub IsLinkBefore : Opening → ℕ → ℕ → ℕ → Execution → Type 0
+IsLinkBefore o group k before t =
+    (before ≡ 0) ⊎ ((j : ℕ) × (role o before t ≡ InBuffer group j) × (j < k))
+
+-- what a link that leads to this place says of a key
+pub record Decides (o : Opening) (group k place : ℕ) (t : Execution) : Type 0 where
+  -- no row: the key has none
+  pub none : place ≡ 0 → look (rows group t) k ≡ None
+  -- a row with a greater key: the key has none
+  pub greater : (j : ℕ) → role o place t ≡ InBuffer group j → k < j →
+      look (rows group t) k ≡ None
+  -- the row of the key
+  pub found : role o place t ≡ InBuffer group k → look (rows group t) k ≡ Some place
+  -- a row with a smaller key: its link stands before the key
+  pub smaller : (j : ℕ) → role o place t ≡ InBuffer group j → j < k →
+      IsLinkBefore o group k place t
+
+-- ---- the laws, over all executions ----
+
+-- the link of a row leads to the row with the next key among those linked into its buffer
+abbrev pub LinksLeadToTheNextRow : Type 0
+LinksLeadToTheNextRow = (o : Opening) (t : Execution) → Valid o t → LinksLeadOn o t
+
+-- the keys of a buffer's rows rise
+abbrev pub KeysOfRowsRise : Type 0
+KeysOfRowsRise = (o : Opening) (t : Execution) → Valid o t → (group : ℕ) → IsRising (rows group t)
+
+-- the buffer of a group that answers for a key, or that is a key's new group, is walkable
+abbrev pub BuffersOfKeysAreWalkable : Type 0
+BuffersOfKeysAreWalkable =
+    (o : Opening) (t : Execution) → Valid o t → (group : ℕ) → Answers o group t →
+    IsWalkable o group t
+
+-- so is that of the group that had a key before, while a caller stands there
+abbrev pub BuffersBeforeAreWalkable : Type 0
+BuffersBeforeAreWalkable =
+    (o : Opening) (t : Execution) → Valid o t → (caller group k : ℕ) → IsCaller o caller →
+    stands_in caller group t ≡ true → predecessor o k t ≡ Some group → IsWalkable o group t
+
+-- a walkable buffer stays so while a caller stands in the group
+abbrev pub WalkableBuffersStay : Type 0
+WalkableBuffersStay =
+    (o : Opening) (caller group : ℕ) → IsCaller o caller → (newer t : Execution) →
+    Valid o (newer ++ t) → StaysInside caller newer → stands_in caller group t ≡ true →
+    IsWalkable o group t → IsWalkable o group (newer ++ t)
+
+-- what a link of a walkable buffer leads to is a row of it, or none
+abbrev pub LinksLeadIntoTheBuffer : Type 0
+LinksLeadIntoTheBuffer =
+    (o : Opening) (t : Execution) → Valid o t → (group before : ℕ) → IsWalkable o group t →
+    IsLinkInto o group before t → IsLinkInto o group (word o t (link_behind group before)) t
+
+-- it decides of a key that it stands before, unless it leads to a smaller one
+abbrev pub LinksBeforeAKeyDecide : Type 0
+LinksBeforeAKeyDecide =
+    (o : Opening) (t : Execution) → Valid o t → (group k before : ℕ) → IsWalkable o group t →
+    IsLinkBefore o group k before t → Decides o group k (word o t (link_behind group before)) t
+
+-- a link before a key stays one while a caller stands in the group
+abbrev pub LinksBeforeAKeyStay : Type 0
+LinksBeforeAKeyStay =
+    (o : Opening) (caller group k before : ℕ) → IsCaller o caller → (newer t : Execution) →
+    Valid o (newer ++ t) → StaysInside caller newer → stands_in caller group t ≡ true →
+    IsLinkBefore o group k before t → IsLinkBefore o group k before (newer ++ t)

@@ -1,0 +1,69 @@
+//! What holds after every valid execution. Each function is a law and does nothing.
+ghost use Rattle.machine_buffers.specs.Phases.{LeaveToInsertStays, PhasesBeforeAreTrue};
+ghost use Rattle.machine_buffers.specs.Phases.{PhasesOfKeysAreTrue};
+ghost use Rattle.machine_buffers.specs.Phases.{TruePhasesStay};
+ghost use Rattle.machine_buffers.specs.Walks.{BuffersBeforeAreWalkable, BuffersOfKeysAreWalkable};
+ghost use Rattle.machine_buffers.specs.Walks.{KeysOfRowsRise, LinksBeforeAKeyDecide};
+ghost use Rattle.machine_buffers.specs.Walks.{LinksBeforeAKeyStay, LinksLeadIntoTheBuffer};
+ghost use Rattle.machine_buffers.specs.Walks.{LinksLeadToTheNextRow, WalkableBuffersStay};
+
+/// The link of a row leads to the row with the next key among those linked into its buffer.
+pub fn links_lead_to_the_next_row()
+    ensures { LinksLeadToTheNextRow }
+{}
+
+/// The keys of a buffer's rows rise.
+pub fn keys_of_rows_rise()
+    ensures { KeysOfRowsRise }
+{}
+
+/// A walk meets the rows of a group that answers for a key, or that is a key's new group: its head
+/// leads to the first row, and all rows that were linked stand there.
+pub fn buffers_of_keys_are_walkable()
+    ensures { BuffersOfKeysAreWalkable }
+{}
+
+/// So it does in the group that had a key before, for a caller that came late.
+pub fn buffers_before_are_walkable()
+    ensures { BuffersBeforeAreWalkable }
+{}
+
+/// A buffer is not taken apart, nor its head refilled, while a caller stands in the group.
+pub fn walkable_buffers_stay()
+    ensures { WalkableBuffersStay }
+{}
+
+/// A link leads to a row of its buffer, or to none.
+pub fn links_lead_into_the_buffer()
+    ensures { LinksLeadIntoTheBuffer }
+{}
+
+/// A link before a key decides of it at its load, unless it leads to a smaller key.
+pub fn links_before_a_key_decide()
+    ensures { LinksBeforeAKeyDecide }
+{}
+
+/// A walk may go on from a link before the key, whatever others link meanwhile.
+pub fn links_before_a_key_stay()
+    ensures { LinksBeforeAKeyStay }
+{}
+
+/// The phase word of a group that answers for a key, or that is a key's new group, says its phase.
+pub fn phases_of_keys_are_true()
+    ensures { PhasesOfKeysAreTrue }
+{}
+
+/// So does that of the group that had a key before, for a caller that came late.
+pub fn phases_before_are_true()
+    ensures { PhasesBeforeAreTrue }
+{}
+
+/// A phase word goes on to say the phase while a caller stands in the group.
+pub fn true_phases_stay()
+    ensures { TruePhasesStay }
+{}
+
+/// Leave to insert that a caller has lasts as long as its read section.
+pub fn leave_to_insert_stays()
+    ensures { LeaveToInsertStays }
+{}
