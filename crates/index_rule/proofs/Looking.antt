@@ -18,7 +18,7 @@ use Rattle.map_model.proofs.Logging.{end_in_history, looks_end, look-stands}
 use Rattle.index_machine.specs.declared.events.Action.{Action}
 use Rattle.index_machine.specs.declared.events.Action.TheVariants.{Unlock, LinkRow}
 use Rattle.index_machine.specs.declared.opening.Opening.{Opening}
-use Rattle.index_machine.specs.Execution.{Execution, Continues, event}
+use Rattle.index_machine.specs.Execution.{Execution, Continues}
 use Rattle.index_machine.specs.Openings.{opening_map}
 use Rattle.index_machine.specs.LivePlaces.{history, history_after, value_in_map}
 use Rattle.index_rule.specs.declared.board.Board.{Board}

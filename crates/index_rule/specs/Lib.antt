@@ -11,3 +11,4 @@ pub mod Opened
 pub mod Ended
 pub mod LockWords
 pub mod Records
+pub mod Buffers
