@@ -1,6 +1,6 @@
--- Records stand where they stood at the opening, as long as nothing is linked or rebuilt.
+-- Arrays and groups are those of the opening, as long as nothing is rebuilt.
 use Rattle.std.proofs.Common.{◌≡◌, ◌≢◌, ℕ, Bool, true, false, cond, ◌==◌, Some, None, [], ◌∷◌}
-use Rattle.std.proofs.Common.{◌⊎◌, ⊎_elim, Option, refl, sym, ap, ◌∙◌}
+use Rattle.std.proofs.Common.{⊎_elim, Option, refl, sym, ap, ◌∙◌}
 use mathlib.Core.Logic.{dite}
 use native.Mathlib.Decide.{ℕ_discrete}
 use Rattle.index_machine.specs.declared.events.Action.{Action}
@@ -18,15 +18,28 @@ use Rattle.index_machine.specs.Groups.{root, root_after, slot, slot_after}
 use Rattle.index_machine.specs.Places.{form}
 use Rattle.index_machine.specs.OpeningRows.{opening_row}
 use Rattle.index_machine.specs.Openings.{first_version, form_of_row}
-use Rattle.index_machine.specs.Rows.{Role, Unused, HeldBy, InArray, InBuffer, role, role_after}
-use Rattle.index_machine.specs.Rows.{opening_role}
+use Rattle.index_machine.specs.Rows.{Unused, HeldBy, InArray, InBuffer, role}
 use Rattle.index_machine.proofs.OpeningRows.{opening_role-array, opening_role-buffer, opening_row-one}
-use Rattle.machine_readers.proofs.ReachedForms.{keyed_in_group}
 use Rattle.index_machine.specs.Conditions.{Allowed}
 use Rattle.index_machine.proofs.Executions.{choice-same, choice-other}
 use Rattle.index_rule.specs.Built.{IsBuilt}
 use Rattle.index_rule.specs.BuiltLaws.{IsInPlace, NoPlaceForwardsYet, ArraysAreAsOpened}
-use Rattle.index_rule.specs.BuiltLaws.{BuffersAreEmptyYet, KeysHaveOnePlace, RootIsAsOpened}
+use Rattle.index_rule.specs.BuiltLaws.{GroupsAreAsOpened, KeysHaveOnePlaceEach, RootIsAsOpened}
+use Rattle.index_rule.specs.BuiltLaws.{RowsAreInTheirGroup}
+use Rattle.index_rule.specs.Built.{AreBuilt}
+use Rattle.index_machine.specs.Groups.{phase, phase_after}
+use Rattle.index_machine.specs.KeyRanges.{group_after, group_of, successor, successor_after}
+use Rattle.index_machine.specs.Openings.{opening_group}
+use Rattle.index_machine.specs.Permissions.{IsBufferFor}
+use Rattle.index_machine.specs.Forms.{put_value}
+use Rattle.index_machine.specs.declared.events.Action.TheVariants.{Freeze, Thaw, StoreOpened}
+use Rattle.machine_barriers.proofs.Reaches.{may_as}
+use Rattle.machine_readers.proofs.FromOpening.{one_place_each as one_place_each_group}
+use Rattle.machine_readers.proofs.Roles.{IsLinkOf, row_back}
+use Rattle.map_model.specs.Map.{key_of}
+use Rattle.word_layout.specs.declared.phase.Phase.{Phase}
+use Rattle.word_layout.specs.declared.phase.Phase.TheVariants.{Open, Opened}
+use Rattle.std.proofs.Common.{subst}
 
 -- ---- forms ----
 
@@ -66,7 +79,8 @@ form_step first place hand (StoreValue q y) f built is =
     chosen (q == place) (with_value y f) f (valued y f is) is
 form_step first place hand (Unlock q r d w) f built is =
     chosen (q == place) (without_lock r f) f (unlocked r f is) is
-form_step first place hand (LinkRow g q d before next) f built is = absurd built
+form_step first place hand (LinkRow g q d before next) f built is =
+    chosen (q == place) (Unlocked first false (put_value d)) f tt is
 form_step first place hand (StoreRedirect g q k to) f built is = absurd built
 form_step first place hand (Close q x) f built is = absurd built
 form_step first place hand (Copy q y) f built is = absurd built
@@ -121,7 +135,22 @@ array_step o t by (PushFree pushed head) g k place may built =
       (λ is. choice-other pushed place Unused (role o place t) else ∙ is),
       λ is. sym (choice-other pushed place Unused (role o place t) else) ∙ is,
     ))
-array_step o t by (LinkRow group q d before next) g k place may built = absurd built
+array_step o t by (LinkRow group q d before next) g k place may built =
+    dite (ℕ_discrete q place)
+    (λ (here : q ≡ place). (
+      (λ is. absurd
+          (let bad : HeldBy by ≡ InArray g k =
+          sym may.mine ∙ (ap (λ (z : ℕ). role o z t) here ∙ is)
+          in cc)),
+      λ is. absurd
+          (let bad : InBuffer group (key_of d) ≡ InArray g k =
+          sym (choice-same q place (InBuffer group (key_of d)) (role o place t) here) ∙ is
+          in cc),
+    ))
+    (λ (else : q ≢ place). (
+      (λ is. choice-other q place (InBuffer group (key_of d)) (role o place t) else ∙ is),
+      λ is. sym (choice-other q place (InBuffer group (key_of d)) (role o place t) else) ∙ is,
+    ))
 array_step o t by (Retire q next) g k place may built = absurd built
 array_step o t by (StoreRedirect group q j to) g k place may built = absurd built
 array_step o t by (NewGroup group low high first) g k place may built = absurd built
@@ -134,46 +163,75 @@ arrays_as_opened o (e ∷ t) valid built g k place =
     let step = array_step o t e.by e.action g k place valid.0 built.0 in
     ((λ is. step.0 (before.0 is)), λ is. before.1 (step.1 is))
 
-not_chosen : (b : Bool) (r s : Role) (g k : ℕ) → r ≢ InBuffer g k → s ≢ InBuffer g k →
-    cond b r s ≢ InBuffer g k
-not_chosen true r s g k here else = here
-not_chosen false r s g k here else = else
+-- ---- groups ----
 
-buffer_step : (place by : ℕ) (d : Action) (r : Role) (g k : ℕ) → IsBuilt d →
-    r ≢ InBuffer g k → role_after place by d r ≢ InBuffer g k
-buffer_step place by (PopFree popped next) r g k built none =
-    not_chosen (popped == place) (HeldBy by) r g k (λ e. let bad = e in cc) none
-buffer_step place by (PushFree pushed head) r g k built none =
-    not_chosen (pushed == place) Unused r g k (λ e. let bad = e in cc) none
-buffer_step place by (LinkRow group q d before next) r g k built none = absurd built
-buffer_step place by (Retire q next) r g k built none = absurd built
-buffer_step place by (StoreRedirect group q j to) r g k built none = absurd built
-buffer_step place by (NewGroup group low high first) r g k built none = absurd built
-buffer_step place by d r g k built none = none
+group_step : (o : Opening) (k : ℕ) (new : Option ℕ) (d : Action) (g : ℕ) → IsBuilt d →
+    group_after k new d g ≡ g
+group_step o k new (Install spot lead low high) g built = absurd built
+group_step o k new d g built = refl
 
-pub buffers_empty : BuffersAreEmptyYet
-buffers_empty o [] built place g k = λ e. opening_role-buffer o place g k e
-buffers_empty o (e ∷ t) built place g k =
-    buffer_step place e.by e.action (role o place t) g k built.0
-    (buffers_empty o t built.1 place g k)
+successor_step : (k : ℕ) (d : Action) (s : Option ℕ) → IsBuilt d → successor_after k d s ≡ s
+successor_step k (NewGroup group low high first) s built = absurd built
+successor_step k d s built = refl
+
+phase_step : (g : ℕ) (d : Action) (x : Phase) → IsBuilt d → phase_after g d x ≡ x
+phase_step g (Freeze h) x built = absurd built
+phase_step g (Thaw h) x built = absurd built
+phase_step g (NewGroup h low high first) x built = absurd built
+phase_step g (StoreOpened h first) x built = absurd built
+phase_step g d x built = refl
+
+pub groups_as_opened : GroupsAreAsOpened
+groups_as_opened o [] built = ((λ k. (refl, refl)), λ g. refl)
+groups_as_opened o (e ∷ t) built =
+    let before = groups_as_opened o t built.1 in (
+      (λ k. (
+        group_step o k (successor k t) e.action (group_of o k t) built.0 ∙ (before.0 k).0,
+        successor_step k e.action (successor k t) built.0 ∙ (before.0 k).1,
+      )),
+      λ g. phase_step g e.action (phase g t) built.0 ∙ before.1 g,
+    )
+
+-- ---- rows ----
+
+open_not : {X : Type 0} {f : ℕ} → Open ≡ Opened f → X
+open_not e = cc
+
+-- the buffer of a key is that of its group
+buffer_is : (o : Opening) (t : Execution) (k g : ℕ) → AreBuilt t → IsBufferFor o k g t →
+    g ≡ opening_group o k
+buffer_is o t k g built belongs =
+    let groups = groups_as_opened o t built in
+    ⊎_elim (λ (z : group_of o k t ≡ g). sym z ∙ (groups.0 k).0)
+    (λ (z : (f : ℕ) × (phase (group_of o k t) t ≡ Opened f) × (successor k t ≡ Some g)).
+    open_not (sym (groups.1 (group_of o k t)) ∙ z.1)) belongs
+
+pub rows_in_group : RowsAreInTheirGroup
+rows_in_group o [] valid built place g k e = absurd (opening_role-buffer o place g k e)
+rows_in_group o (e ∷ t) valid built place g k is =
+    ⊎_elim
+    (λ (z : role o place t ≡ InBuffer g k).
+    rows_in_group o t valid.1 built.1 place g k z)
+    (λ (z : IsLinkOf g place k e.action).
+    let may = may_as o t e.by e.action (LinkRow g place z.0 z.1 z.2) z.3 valid.0 in
+    subst (λ (j : ℕ). g ≡ opening_group o j) z.4
+    (buffer_is o t (key_of z.0) g built.1 may.belongs))
+    (row_back o t e.by e.action place g k is)
 
 -- ---- keys ----
 
-pub one_place : KeysHaveOnePlace
-one_place o t valid built k p q here there =
-    let a = keyed_in_group o t p k here in
-    let b = keyed_in_group o t q k there in
-    let first = opening_role-array o p a.0 k (array a.0 p a.1) in
-    let second = opening_role-array o q b.0 k (array b.0 q b.1) in
-    opening_row-one o p q k _ _ first.2 second.2
-  where
-    array : (g place : ℕ) →
-        (role o place t ≡ InArray g k) ⊎ (role o place t ≡ InBuffer g k) →
-        opening_role o place ≡ InArray g k
-    array g place is =
-        ⊎_elim (λ (z : role o place t ≡ InArray g k).
-        (arrays_as_opened o t valid built g k place).1 z)
-        (λ (z : role o place t ≡ InBuffer g k). absurd (buffers_empty o t built place g k z)) is
+pub one_place_each : KeysHaveOnePlaceEach
+one_place_each o t valid built k p q g h = (
+  λ here there.
+      let a = (arrays_as_opened o t valid built g k p).1 here in
+      let b = (arrays_as_opened o t valid built h k q).1 there in
+      opening_row-one o p q k _ _ (opening_role-array o p g k a).2 (opening_role-array o q h k b).2,
+  λ here there.
+      let same : h ≡ g =
+      rows_in_group o t valid built q h k there ∙ sym (rows_in_group o t valid built p g k here) in
+      (one_place_each_group o t valid).rows p q g k here
+      (there ∙ ap (λ (z : ℕ). InBuffer z k) same),
+)
 
 -- ---- the root ----
 

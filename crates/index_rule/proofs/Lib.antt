@@ -17,6 +17,7 @@ pub mod StateForms
 pub mod LockWords
 pub mod RecordSteps
 pub mod RootSteps
+pub mod BufferSteps
 pub mod Calls
 pub mod RecordStepping
 pub mod RecordReading

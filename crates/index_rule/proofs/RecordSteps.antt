@@ -14,7 +14,7 @@ use Rattle.word_layout.specs.Words.{IsWord, PlaceWord, Word, address_of}
 use Rattle.word_layout.specs.Limits.{word_count}
 use Rattle.word_layout.specs.declared.limits.Limits.{Limits}
 use Rattle.word_layout.proofs.WordNames.{address_of-within, stand_apart}
-use Rattle.index_machine.specs.declared.events.Action.TheVariants.{LoadState, LoadValue, Lock}
+use Rattle.index_machine.specs.declared.events.Action.TheVariants.{LoadKey, LoadState, LoadValue, Lock}
 use Rattle.index_machine.specs.declared.events.Action.TheVariants.{FailLock, StoreValue, Unlock}
 use Rattle.index_machine.specs.declared.events.Action.{Action}
 use Rattle.map_model.specs.Map.{key_of}
@@ -31,7 +31,7 @@ use Rattle.index_machine.specs.Reaching.{reached}
 use Rattle.index_machine.specs.Permissions.{IsBufferFor, MayInsertInto}
 use Rattle.index_machine.specs.LivePlaces.{live_place}
 use Rattle.index_machine.specs.RecordConditions.{HasKey, HoldsNoLock, IsAt, IsInArrayOf, MayLookAt}
-use Rattle.index_machine.specs.RecordConditions.{MayFailLock, MayLoadState, MayLoadValue, MayLock}
+use Rattle.index_machine.specs.RecordConditions.{MayFailLock, MayLoadKey, MayLoadState, MayLoadValue, MayLock}
 use Rattle.index_machine.specs.RecordConditions.{Makes, MayUnlock}
 use Rattle.index_machine.specs.Conditions.{Valid}
 use Rattle.index_machine.proofs.Executions.{valid_before}
@@ -47,7 +47,7 @@ use Rattle.index_rule.specs.Records.{CanSee, MayRelease, change_by, or_zero, unl
 use Rattle.index_rule.specs.Records.{value_of}
 use Rattle.index_rule.specs.Rule.{Kept, Does, first_of, word_in}
 use Rattle.index_rule.specs.Steps.{says_removed, unlock_known, unlock_store}
-use Rattle.index_rule.specs.Steps.{lock_failed, lock_made, state_load, value_load}
+use Rattle.index_rule.specs.Steps.{key_load, lock_failed, lock_made, state_load, value_load}
 use Rattle.index_rule.specs.Steps.{value_store}
 use Rattle.index_rule.proofs.LockWords.{locked_on}
 use Rattle.index_rule.proofs.StateForms.{forwards_by_word, unlocked_by_word}
@@ -112,6 +112,16 @@ may_load_value o c p t valid can =
       allowed = look o c p t can;
       found_word = refl;
       says = (represented o t valid).values p (seen_keyed o c p t valid can);
+    }
+
+may_load_key : (o : Opening) (c p : ℕ) (t : Execution) → Valid o t → CanSee o c p t →
+    MayLoadKey o c p (word o t (PlaceWord p Key)) t
+may_load_key o c p t valid can =
+    let keyed = seen_keyed o c p t valid can in
+    record {
+      allowed = look o c p t can;
+      found_word = refl;
+      says = keyed.1 ∙ ap Some (sym ((represented o t valid).keys p keyed.0 keyed.1));
     }
 
 may_lock : (o : Opening) (c p expected : ℕ) (t : Execution) → Valid o t → IsAt o c p t →
@@ -294,6 +304,15 @@ module _ (o : Opening) (slots id : ℕ) (me : Me (Unit {0}) View) (c : ℕ)
       (loads o slots id me c is live (PlaceWord p Value) (λ n. LoadValue p n) is_place (λ _. tt)
       (λ _. refl)
       (λ t valid newer e out. may_load_value o c p t valid (seen_now t newer p valid e out can)))
+
+  pub loads_key : (p a : ℕ) → CanSee o c p me.0.known → IsPlace (limits o) p →
+      a ≡ address_of (limits o) (PlaceWord p Key) →
+      Allows (Kept o) slots id me a (λ n. n) (λ n x. Does me (key_load (word_in me.0 a) n) x)
+  loads_key p a can is_place at =
+      by_name o slots id me c is live (PlaceWord p Key) a (λ n. n) key_load is_place at
+      (loads o slots id me c is live (PlaceWord p Key) (λ n. LoadKey p n) is_place (λ _. tt)
+      (λ _. refl)
+      (λ t valid newer e out. may_load_key o c p t valid (seen_now t newer p valid e out can)))
 
   pub locks : (p a x y : ℕ) → y ≡ x + 4 → IsAt o c p me.0.known → HoldsNoLock o c me.0.known → IsLockable x →
       IsPlace (limits o) p → a ≡ address_of (limits o) (PlaceWord p State) →

@@ -1,12 +1,14 @@
 -- Which kinds of step the board has calls for. Until it has all of them, the rule says that no other
--- step was made: nothing is linked into a buffer, and nothing is rebuilt.
+-- step was made: nothing is rebuilt.
 use Rattle.std.specs.Prelude.{[], ◌∷◌}
 use Rattle.index_machine.specs.declared.events.Action.{Action}
 use Rattle.index_machine.specs.declared.events.Action.TheVariants.{LoadEpoch, Enter, Leave}
 use Rattle.index_machine.specs.declared.events.Action.TheVariants.{LoadFree, LoadFreeLink, PopFree}
 use Rattle.index_machine.specs.declared.events.Action.TheVariants.{FailPop, StorePrivate}
 use Rattle.index_machine.specs.declared.events.Action.TheVariants.{PushFree, FailPush}
-use Rattle.index_machine.specs.declared.events.Action.TheVariants.{LoadState, LoadValue, Lock}
+use Rattle.index_machine.specs.declared.events.Action.TheVariants.{LoadState, LoadValue, LoadKey}
+use Rattle.index_machine.specs.declared.events.Action.TheVariants.{LoadHead, LoadLink, LinkRow}
+use Rattle.index_machine.specs.declared.events.Action.TheVariants.{FailLink, LoadPhase, Lock}
 use Rattle.index_machine.specs.declared.events.Action.TheVariants.{FailLock, StoreValue, Unlock}
 use Rattle.index_machine.specs.declared.events.Action.TheVariants.{LoadRoot, LoadSlotGroup}
 use Rattle.index_machine.specs.Execution.{Execution}
@@ -25,10 +27,16 @@ IsBuilt (PushFree place head) = Unit {0}
 IsBuilt (FailPush place expected found) = Unit {0}
 IsBuilt (LoadState place found) = Unit {0}
 IsBuilt (LoadValue place found) = Unit {0}
+IsBuilt (LoadKey place found) = Unit {0}
 IsBuilt (Lock place expected) = Unit {0}
 IsBuilt (FailLock place expected found) = Unit {0}
 IsBuilt (StoreValue place value) = Unit {0}
 IsBuilt (Unlock place removed change stored) = Unit {0}
+IsBuilt (LoadHead group found) = Unit {0}
+IsBuilt (LoadLink group place found) = Unit {0}
+IsBuilt (LinkRow group place change before next) = Unit {0}
+IsBuilt (FailLink group before expected found) = Unit {0}
+IsBuilt (LoadPhase group found) = Unit {0}
 IsBuilt (LoadRoot found) = Unit {0}
 IsBuilt (LoadSlotGroup side i found) = Unit {0}
 IsBuilt _ = ⊥

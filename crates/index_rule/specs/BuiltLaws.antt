@@ -1,13 +1,15 @@
--- What holds as long as no other kinds of step were made than those that are built: records stand
--- where they stood at the opening.
-use Rattle.std.specs.Prelude.{◌≡◌, ◌≢◌, ℕ, Some}
+-- What holds as long as no other kinds of step were made than those that are built: the arrays and the
+-- groups are those of the opening.
+use Rattle.std.specs.Prelude.{◌≡◌, ℕ, None}
+use Rattle.word_layout.specs.declared.phase.Phase.TheVariants.{Open}
 use Rattle.index_machine.specs.declared.opening.Opening.{Opening}
 use Rattle.index_machine.specs.Execution.{Execution}
 use Rattle.index_machine.specs.Forms.{Form, Blank, Unlocked, Locked}
-use Rattle.index_machine.specs.Groups.{root, slot}
-use Rattle.index_machine.specs.Openings.{opening_root, opening_slot}
+use Rattle.index_machine.specs.Groups.{phase, root, slot}
+use Rattle.index_machine.specs.KeyRanges.{group_of, successor}
+use Rattle.index_machine.specs.Openings.{opening_group, opening_root, opening_slot}
 use Rattle.index_machine.specs.Places.{form}
-use Rattle.index_machine.specs.Rows.{InArray, InBuffer, role, role_key, opening_role}
+use Rattle.index_machine.specs.Rows.{InArray, InBuffer, role, opening_role}
 use Rattle.index_machine.specs.Conditions.{Valid}
 use Rattle.index_rule.specs.Built.{AreBuilt}
 
@@ -31,17 +33,25 @@ ArraysAreAsOpened =
     (opening_role o place ≡ InArray group k → role o place t ≡ InArray group k)
     × (role o place t ≡ InArray group k → opening_role o place ≡ InArray group k)
 
--- the buffers are empty
-abbrev pub BuffersAreEmptyYet : Type 0
-BuffersAreEmptyYet =
-    (o : Opening) (t : Execution) → AreBuilt t → (place group k : ℕ) →
-    role o place t ≢ InBuffer group k
+-- the groups are those of the opening: none is to be replaced, and all are open
+abbrev pub GroupsAreAsOpened : Type 0
+GroupsAreAsOpened =
+    (o : Opening) (t : Execution) → AreBuilt t →
+    ((k : ℕ) → (group_of o k t ≡ opening_group o k) × (successor k t ≡ None))
+    × ((group : ℕ) → phase group t ≡ Open)
 
--- so each key has one place at most
-abbrev pub KeysHaveOnePlace : Type 0
-KeysHaveOnePlace =
-    (o : Opening) (t : Execution) → Valid o t → AreBuilt t → (k place other : ℕ) →
-    role_key (role o place t) ≡ Some k → role_key (role o other t) ≡ Some k → place ≡ other
+-- a row stands in the buffer of its key's group
+abbrev pub RowsAreInTheirGroup : Type 0
+RowsAreInTheirGroup =
+    (o : Opening) (t : Execution) → Valid o t → AreBuilt t → (place group k : ℕ) →
+    role o place t ≡ InBuffer group k → group ≡ opening_group o k
+
+-- so each key has one array place and one row at most
+abbrev pub KeysHaveOnePlaceEach : Type 0
+KeysHaveOnePlaceEach =
+    (o : Opening) (t : Execution) → Valid o t → AreBuilt t → (k place other first second : ℕ) →
+    (role o place t ≡ InArray first k → role o other t ≡ InArray second k → place ≡ other)
+    × (role o place t ≡ InBuffer first k → role o other t ≡ InBuffer second k → place ≡ other)
 
 -- the root is the one of the opening
 abbrev pub RootIsAsOpened : Type 0

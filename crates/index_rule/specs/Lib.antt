@@ -12,3 +12,4 @@ pub mod Opened
 pub mod Ended
 pub mod LockWords
 pub mod Records
+pub mod Buffers

@@ -1,15 +1,20 @@
 -- The action of a step, by the word that it loaded or stored. A step is made only at words of the
 -- one form that is named.
 use Rattle.std.specs.Prelude.{ℕ, ◌%◌, ◌==◌, Bool, Option, Some, None}
-use Rattle.word_layout.specs.Words.{Word, Epoch, SlotGroup, PlaceWord}
+use Rattle.word_layout.specs.Words.{Word, Epoch, SlotGroup, Header, PlaceWord}
 use Rattle.index_machine.specs.declared.events.Action.{Action}
 use Rattle.index_machine.specs.declared.events.Action.TheVariants.{LoadEpoch, LoadFree}
 use Rattle.index_machine.specs.declared.events.Action.TheVariants.{LoadFreeLink, StorePrivate}
 use Rattle.index_machine.specs.declared.events.Action.TheVariants.{LoadState, LoadValue, Lock}
 use Rattle.index_machine.specs.declared.events.Action.TheVariants.{FailLock, StoreValue, Unlock}
-use Rattle.index_machine.specs.declared.events.Action.TheVariants.{LoadSlotGroup}
+use Rattle.index_machine.specs.declared.events.Action.TheVariants.{LoadSlotGroup, LoadKey}
+use Rattle.index_machine.specs.declared.events.Action.TheVariants.{LoadHead, LoadLink, LoadPhase}
+use Rattle.index_machine.specs.declared.events.Action.TheVariants.{LinkRow, FailLink}
 use Rattle.index_machine.specs.declared.opening.Opening.{Opening}
+use Rattle.index_machine.specs.Execution.{Execution}
+use Rattle.index_machine.specs.Rows.{Role, Unused, HeldBy, InArray, InBuffer, role}
 use Rattle.index_rule.specs.declared.view.View.{View}
+use Rattle.index_rule.specs.Buffers.{inserted_by}
 use Rattle.index_rule.specs.Records.{change_by}
 use Rattle.index_rule.specs.Rule.{number}
 
@@ -45,6 +50,11 @@ abbrev pub value_load : Word → ℕ → Action
 value_load (PlaceWord place part) n = LoadValue place n
 value_load _ n = LoadFree n
 
+-- a key word was loaded
+abbrev pub key_load : Word → ℕ → Action
+key_load (PlaceWord place part) n = LoadKey place n
+key_load _ n = LoadFree n
+
 -- the expected state word was exchanged for its locked form
 abbrev pub lock_made : Word → ℕ → Action
 lock_made (PlaceWord place part) expected = Lock place expected
@@ -74,3 +84,57 @@ unlock_known (Some o) v place n =
 abbrev pub unlock_store : View → Word → ℕ → Action
 unlock_store v (PlaceWord place part) n = unlock_known v.opening v place n
 unlock_store v _ n = LoadFree n
+
+-- ---- steps on a buffer ----
+
+-- a buffer's head was loaded
+abbrev pub head_load : Word → ℕ → Action
+head_load (Header group which) n = LoadHead group n
+head_load _ n = LoadFree n
+
+-- a phase word was loaded
+abbrev pub phase_load : Word → ℕ → Action
+phase_load (Header group which) n = LoadPhase group n
+phase_load _ n = LoadFree n
+
+-- the group of a row
+abbrev pub group_of_role : Role → ℕ
+group_of_role Unused = 0
+group_of_role (HeldBy hand) = 0
+group_of_role (InArray group k) = 0
+group_of_role (InBuffer group k) = group
+
+-- the group in whose buffer a place is by what is known
+abbrev pub buffer_known : Option Opening → ℕ → Execution → ℕ
+buffer_known None place t = 0
+buffer_known (Some o) place t = group_of_role (role o place t)
+
+-- the group in whose buffer the link at a word is: of the head, or of a row
+abbrev pub link_group : View → Word → ℕ
+link_group v (Header group which) = group
+link_group v (PlaceWord place part) = buffer_known v.opening place v.known
+link_group v _ = 0
+
+-- the row whose link is at a word, or 0 for the head
+abbrev pub link_place : Word → ℕ
+link_place (PlaceWord place part) = place
+link_place _ = 0
+
+-- the link of a row in a buffer was loaded
+abbrev pub row_link_load : View → Word → ℕ → Action
+row_link_load v w n = LoadLink (link_group v w) (link_place w) n
+
+-- the link of a row by a hand that knows this
+abbrev pub link_known : Option Opening → View → ℕ → ℕ → ℕ → ℕ → Action
+link_known None v group place before expected = LoadFree expected
+link_known (Some o) v group place before expected =
+    LinkRow group place (inserted_by o (number v) place v.known) before expected
+
+-- the link at a word was exchanged: it leads to this row
+abbrev pub link_made : View → Word → ℕ → ℕ → Action
+link_made v w expected place =
+    link_known v.opening v (link_group v w) place (link_place w) expected
+
+-- another link was found than the expected one
+abbrev pub link_failed : View → Word → ℕ → ℕ → Action
+link_failed v w expected n = FailLink (link_group v w) (link_place w) expected n

@@ -6,6 +6,7 @@ ghost use Rattle.word_layout.specs.Layout.{limits_of};
 use crate::rule::Words;
 use word_layout::Layout;
 
+mod buffers;
 mod closing;
 mod epochs;
 mod free_stack;

@@ -1,7 +1,8 @@
 //! What holds of the moments of every call, and of every execution of the kinds of step that the
 //! board has calls for by now. Each function is a law and does nothing.
 ghost use Rattle.index_rule.specs.BuiltLaws.{NoPlaceForwardsYet, ArraysAreAsOpened};
-ghost use Rattle.index_rule.specs.BuiltLaws.{BuffersAreEmptyYet, KeysHaveOnePlace, RootIsAsOpened};
+ghost use Rattle.index_rule.specs.BuiltLaws.{GroupsAreAsOpened, RowsAreInTheirGroup};
+ghost use Rattle.index_rule.specs.BuiltLaws.{KeysHaveOnePlaceEach, RootIsAsOpened};
 ghost use Rattle.index_rule.specs.Moments.{MomentsLieWithin};
 
 /// A moment of a call is not before what its hand had seen, nor behind what it knows at the end.
@@ -19,14 +20,19 @@ pub fn arrays_are_as_opened()
     ensures { ArraysAreAsOpened }
 {}
 
-/// No row is in a buffer.
-pub fn buffers_are_empty_yet()
-    ensures { BuffersAreEmptyYet }
+/// All groups are open, and no key has a new one.
+pub fn groups_are_as_opened()
+    ensures { GroupsAreAsOpened }
 {}
 
-/// A key has one place at most.
-pub fn keys_have_one_place()
-    ensures { KeysHaveOnePlace }
+/// A row stands in the buffer of its key's group.
+pub fn rows_are_in_their_group()
+    ensures { RowsAreInTheirGroup }
+{}
+
+/// A key has one place in the arrays and one row at most.
+pub fn keys_have_one_place_each()
+    ensures { KeysHaveOnePlaceEach }
 {}
 
 /// The root names one slot of side 0, and this names group 0.

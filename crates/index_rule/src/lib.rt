@@ -20,13 +20,13 @@ mod view;
 pub use board::Board;
 pub use hand::Hand;
 pub use laws::{
-    arrays_are_as_opened, buffers_are_empty_yet, keys_have_one_place, moments_lie_within,
-    no_place_forwards_yet, root_is_as_opened,
+    arrays_are_as_opened, groups_are_as_opened, keys_have_one_place_each, moments_lie_within,
+    no_place_forwards_yet, root_is_as_opened, rows_are_in_their_group,
 };
 pub use looks::Sight;
 pub use note::Note;
 pub use own_rows::OwnRow;
 pub use rows::{PrivateRow, RetiredRow};
 pub use rule::{Place, Words};
-pub use swap::Swap;
+pub use swap::{Linked, Swap};
 pub use view::{Heard, View};

@@ -8,6 +8,8 @@ ghost use Rattle.index_rule.specs.Rule.{Does, word_in};
 ghost use Rattle.index_rule.specs.Steps.{epoch_load, link_load, private_store};
 ghost use Rattle.index_rule.specs.Steps.{slot_group_load, state_load, value_load};
 ghost use Rattle.index_rule.specs.Steps.{lock_made, lock_failed, value_store, unlock_store};
+ghost use Rattle.index_rule.specs.Steps.{key_load, head_load, phase_load, row_link_load};
+ghost use Rattle.index_rule.specs.Steps.{link_made, link_failed};
 
 use crate::looks::Sight;
 use crate::view::View;
@@ -107,6 +109,38 @@ pub struct Unlocks;
 
 impl Play<(), View> for Unlocks {
     ghost then = { λ st me n w. Does me (unlock_store me.0 (word_in me.0 st.word) n) w };
+}
+
+pub struct LoadsKey;
+
+impl Play<(), View> for LoadsKey {
+    ghost then = { λ st me n w. Does me (key_load (word_in me.0 st.word) n) w };
+}
+
+pub struct LoadsHead;
+
+impl Play<(), View> for LoadsHead {
+    ghost then = { λ st me n w. Does me (head_load (word_in me.0 st.word) n) w };
+}
+
+pub struct LoadsRowLink;
+
+impl Play<(), View> for LoadsRowLink {
+    ghost then = { λ st me n w. Does me (row_link_load me.0 (word_in me.0 st.word) n) w };
+}
+
+pub struct LoadsPhase;
+
+impl Play<(), View> for LoadsPhase {
+    ghost then = { λ st me n w. Does me (phase_load (word_in me.0 st.word) n) w };
+}
+
+pub struct LinksRow;
+
+impl Play<(), View> for LinksRow {
+    ghost then = { λ st me n w.
+        Does me (cond (n == st.first) (link_made me.0 (word_in me.0 st.word) st.first st.second)
+        (link_failed me.0 (word_in me.0 st.word) st.first n)) w };
 }
 
 pub struct NotesLook<L: Sight> {

@@ -6,8 +6,10 @@ use Rattle.index_machine.specs.Execution.{Execution}
 use Rattle.index_machine.specs.Forms.{Form, Copied, IsLockedBy}
 use Rattle.index_machine.specs.Places.{form}
 use Rattle.index_machine.specs.LivePlaces.{value_in_map}
-use Rattle.index_machine.specs.Rows.{role, role_key}
+use Rattle.index_machine.specs.Rows.{InArray, role, role_key}
+use Rattle.index_machine.specs.KeyRanges.{group_of}
 use Rattle.index_machine.specs.Conditions.{Valid}
+use Rattle.machine_readers.specs.Readers.{BufferHasNone}
 use Rattle.machine_readers.specs.Redirects.{HasNoValue}
 use Rattle.index_rule.specs.Built.{AreBuilt}
 use Rattle.index_rule.specs.declared.board.Board.{Board}
@@ -83,10 +85,10 @@ ReadTells b h place (read.Changed at first second) k = HasSameKey b h place at k
 
 -- ---- the law ----
 
--- while nothing is linked or rebuilt, a place without a value is the only one of its key, which is not
--- in the map
+-- while nothing is rebuilt, a key whose place in the array has no value is not in the map, unless a row in
+-- the buffer of its group has one
 abbrev pub GoneIsAbsent : Type 0
 GoneIsAbsent =
-    (o : Opening) (t : Execution) → Valid o t → AreBuilt t → (place key : ℕ) →
-    role_key (role o place t) ≡ Some key → HasNoValue o t place →
-    HasNoValueElsewhere o key place t × (value_in_map o key t ≡ None)
+    (o : Opening) (t : Execution) → Valid o t → AreBuilt t → (place group key : ℕ) →
+    role o place t ≡ InArray group key → HasNoValue o t place →
+    BufferHasNone o t (group_of o key t) key → value_in_map o key t ≡ None

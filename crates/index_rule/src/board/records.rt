@@ -1,10 +1,11 @@
-//! The steps on a record: its state and its value are loaded, its version lock is taken, its value
-//! is stored, and the lock is released.
+//! The steps on a record: its key, its state and its value are loaded, its version lock is taken, its
+//! value is stored, and the lock is released.
 //!
 //! While a caller holds the lock nobody else changes the record. The change takes effect as the lock
 //! is released.
 ghost use Rattle.word_layout.specs.State.{IsLockable};
-ghost use Rattle.index_machine.specs.declared.events.Action.TheVariants.{LoadState, LoadValue};
+ghost use Rattle.index_machine.specs.declared.events.Action.TheVariants.{LoadKey, LoadState};
+ghost use Rattle.index_machine.specs.declared.events.Action.TheVariants.{LoadValue};
 ghost use Rattle.index_machine.specs.declared.events.Action.TheVariants.{Lock, FailLock};
 ghost use Rattle.index_machine.specs.declared.events.Action.TheVariants.{StoreValue, Unlock};
 ghost use Rattle.index_machine.specs.RecordConditions.{HoldsNoLock, IsAt};
@@ -14,11 +15,23 @@ ghost use Rattle.index_rule.specs.Records.{change_by, unlocked_word};
 
 use crate::board::Board;
 use crate::hand::Hand;
-use crate::plays::{LoadsState, LoadsValue, Locks, StoresValue, Unlocks};
+use crate::plays::{LoadsKey, LoadsState, LoadsValue, Locks, StoresValue, Unlocks};
 use crate::swap::Swap;
 use word_layout::{locked_word, released_word, state_word, value_word};
 
 impl Board {
+    /// Loads the key word of a place.
+    #[inline]
+    pub fn load_key(&self, hand: &mut Hand, place: u32) -> u64
+        requires hand { IsHandOf self.now hand.old }
+        requires may { CanSee (opening_of self.now) hand.old.number place (known hand.old) }
+        ensures { Makes self.now hand.old (LoadKey place result) hand.new }
+    {
+        self.words
+            .shared
+            .load::<LoadsKey>(&mut hand.seat, place as usize)
+    }
+
     /// Loads the state word of a place.
     #[inline]
     pub fn load_state(&self, hand: &mut Hand, place: u32) -> u64
