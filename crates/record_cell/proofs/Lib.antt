@@ -3,3 +3,5 @@ pub mod Told
 pub mod Locked
 pub mod Changed
 pub mod Entering
+pub mod Revivable
+pub mod Revived

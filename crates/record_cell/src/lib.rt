@@ -9,6 +9,7 @@ mod changing;
 mod finding;
 mod laws;
 mod reading;
+mod reviving;
 #[cfg(test)]
 mod tests;
 
@@ -16,3 +17,4 @@ pub use answers::{Read, Wrote};
 pub use changing::{kill, update};
 pub use laws::gone_is_absent;
 pub use reading::read;
+pub use reviving::revive;
