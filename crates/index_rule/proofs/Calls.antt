@@ -1,5 +1,5 @@
 -- The moments of a call that made several steps.
-use Rattle.std.proofs.Common.{ℕ, ◌∷◌, ◌++◌, [], refl, sym}
+use Rattle.std.proofs.Common.{◌∷◌, ◌++◌, [], refl, sym}
 use Rattle.index_machine.specs.declared.events.Action.{Action}
 use Rattle.index_machine.specs.Execution.{Execution, event, Without, Continues}
 use Rattle.index_machine.proofs.Executions.{continues_same, continues_trans}

@@ -4,3 +4,4 @@ pub mod Locked
 pub mod Changed
 pub mod Revivable
 pub mod Revived
+pub mod Entering

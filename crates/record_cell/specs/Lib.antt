@@ -4,3 +4,4 @@ pub mod Reads
 pub mod Writes
 pub mod Locking
 pub mod Reviving
+pub mod Visits
