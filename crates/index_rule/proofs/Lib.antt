@@ -21,3 +21,4 @@ pub mod Calls
 pub mod RecordStepping
 pub mod RecordReading
 pub mod RootStepping
+pub mod BufferStepping
