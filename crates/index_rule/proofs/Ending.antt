@@ -16,12 +16,12 @@ use Rattle.index_rule.specs.declared.board.Board.{Board}
 use Rattle.index_rule.specs.declared.hand.Hand.{Hand}
 use Rattle.index_rule.specs.declared.view.View.{View}
 use Rattle.index_rule.specs.declared.view.Heard.{Heard}
-use Rattle.index_rule.specs.Rule.{Owns, GoesOn, GoesOnFromAll, Knows, Kept, StandsFor}
+use Rattle.index_rule.specs.Rule.{Owns, GoesOn, GoesOnFromAll, AreOwn, Knows, Kept, StandsFor}
 use Rattle.index_rule.specs.Hands.{known, view, IsHandOf}
 use Rattle.index_rule.specs.Seats.{joined, heard_of}
 use Rattle.index_rule.specs.Ended.{AreOf, AreOutside, EndsFor, IsHeard, Includes, IncludesAll}
 use Rattle.index_rule.specs.Ended.{Leaves}
-use Rattle.index_rule.proofs.Seats.{in_left, in_right}
+use Rattle.index_rule.proofs.Seats.{goes_further, in_left, in_right}
 use Rattle.index_rule.proofs.Steps.{is_some}
 
 -- ---- joining one by one ----
@@ -70,12 +70,15 @@ none_left (h ∷ hs) e = absurd (omega arith)
 
 -- ---- the end ----
 
-heard_goes_on : (x : Heard) (hs : List Heard) (t : Execution) → IsHeard x hs →
-    GoesOnFromAll hs t → GoesOn x.numbers x.known t
-heard_goes_on x [] t is all = absurd is
-heard_goes_on x (y ∷ hs) t is all =
-    ⊎_elim (λ (same : x ≡ y). subst (λ (z : Heard). GoesOn z.numbers z.known t) (sym same) all.0)
-    (λ (rest : IsHeard x hs). heard_goes_on x hs t rest all.1) is
+heard_goes_on : (x : Heard) (hs : List Heard) (numbers : List ℕ) (known t : Execution) →
+    IsHeard x hs → AreOwn hs numbers → GoesOnFromAll hs known → GoesOn numbers known t →
+    GoesOn x.numbers x.known t
+heard_goes_on x [] numbers known t is own all on = absurd is
+heard_goes_on x (y ∷ hs) numbers known t is own all on =
+    ⊎_elim
+    (λ (same : x ≡ y). subst (λ (z : Heard). GoesOn z.numbers z.known t) (sym same)
+    (goes_further y.numbers numbers y.known known t own.0 all.0 on))
+    (λ (rest : IsHeard x hs). heard_goes_on x hs numbers known t rest own.1 all.1 on) is
 
 -- a hand that the seat includes made no event that it did not know
 ends_one : (o : Opening) (t : Execution) (v : View) (h : Hand) → Knows o t v → Includes v h →
@@ -85,7 +88,8 @@ ends_one o t v h k includes =
     (λ (same : view h ≡ v).
     subst (λ (z : View). GoesOn z.numbers z.known t) (sym same) k.goes_on)
     (λ (heard : IsHeard (heard_of (view h)) v.heard).
-    heard_goes_on (heard_of (view h)) v.heard t heard k.heard)
+    heard_goes_on (heard_of (view h)) v.heard v.numbers v.known t heard k.own_heard k.heard
+    k.goes_on)
     includes.told
     in
     (goes_on.0, goes_on.1, goes_on.2 h.number (subst (In h.number) (sym h.mine) (inl refl)))

@@ -3,6 +3,7 @@ pub mod Logging
 pub mod Steps
 pub mod Looking
 pub mod Seats
+pub mod Telling
 pub mod Opens
 pub mod StepKinds
 pub mod EpochSteps
@@ -22,3 +23,4 @@ pub mod RecordStepping
 pub mod RecordReading
 pub mod RootStepping
 pub mod BufferStepping
+pub mod Heeding

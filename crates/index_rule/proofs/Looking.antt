@@ -1,14 +1,10 @@
 -- A step that writes a look keeps the rule, and makes no event.
-use Rattle.std.proofs.Common.{◌≡◌, ◌≢◌, ℕ, ◌≤◌, ⊎_elim, Option, Some, [], ◌∷◌, ◌++◌, length}
-use Rattle.std.proofs.Common.{length-append, arith, refl, sym, ap, ◌∙◌, subst, List}
-use mathlib.Core.Option.{some}
-use lib.ListN.{get_elem?}
+use Rattle.std.proofs.Common.{◌≡◌, ℕ, ◌≤◌, Option, Some, [], ◌∷◌, ◌++◌, length}
+use Rattle.std.proofs.Common.{length-append, arith, refl, sym, ap, ◌∙◌, subst}
 use Rattle.std.proofs.lemmas.Grind.{merely}
-use Rattle.std.proofs.lemmas.List.{set-get_or}
 use Rattle.std.proofs.Math.Logic.{∥∥₁_elim}
 use Rattle.std.proofs.Props.{props}
 use Rattle.atomic_table.specs.Table.{Me, keeps, Allows}
-use Rattle.atomic_table.proofs.Lists.{at_set}
 use Rattle.map_model.specs.Map.{IsRising}
 use Rattle.map_model.specs.History.{History}
 use Rattle.map_model.specs.declared.entries.Entry.TheVariants.{Look}
@@ -24,16 +20,12 @@ use Rattle.index_machine.specs.LivePlaces.{history, history_after, value_in_map}
 use Rattle.index_rule.specs.declared.board.Board.{Board}
 use Rattle.index_rule.specs.declared.hand.Hand.{Hand}
 use Rattle.index_rule.specs.declared.view.View.{View}
-use Rattle.index_machine.specs.Conditions.{Valid}
-use Rattle.index_machine.proofs.Executions.{valid_before}
-use Rattle.index_rule.specs.Built.{AreBuilt}
-use Rattle.index_rule.specs.Rule.{Follows, HasLog, Kept, Knows, StandsFor, number}
+use Rattle.index_rule.specs.Rule.{Follows, HasLog, Kept, Knows, number}
 use Rattle.index_rule.specs.Rule.{first_of}
-use Rattle.index_rule.proofs.Logging.{built_before}
 use Rattle.index_rule.specs.Hands.{IsHandOf, known, opening_of, view}
 use Rattle.index_rule.specs.Moments.{IsBetween, IsWithin, MomentsLieWithin}
 use Rattle.index_rule.specs.Looks.{MayNote, Notes, with_look}
-use Rattle.index_rule.proofs.Steps.{apart_set, is_some, one_opening}
+use Rattle.index_rule.proofs.Steps.{follows_of, is_some, kept_with, one_opening}
 
 -- ---- histories ----
 
@@ -131,17 +123,7 @@ notes o slots id me a start key found moment live within value least s r _ at _ 
       w,
       keeps,
       tt,
-      record {
-        execution = r.execution;
-        valid = r.valid;
-        built = r.built;
-        words = subst (λ (z : List ℕ). StandsFor o z r.execution) (sym (set-get_or s.words a 0))
-            r.words;
-        apart = apart_set s.views id v w r.apart at (λ _ h. h);
-        known = λ i u p q. ⊎_elim (λ (b : (i ≡ id) × (w ≡ u)). subst (Knows o r.execution) b.1 knows)
-            (λ (b : (i ≢ id) × (get_elem? s.views i ≡ some u)). r.known i u b.1 q)
-            (at_set s.views id i w u p);
-      },
+      kept_with o s id a v w r at (λ _ h. h) knows,
       record {
         moment = moment;
         within = within;
@@ -150,13 +132,7 @@ notes o slots id me a start key found moment live within value least s r _ at _ 
         is = refl;
         bare = refl;
         following = λ p of. merely (subst (λ (z : Opening). Follows z w)
-            (one_opening o p (sym live ∙ of)) (record {
-              valid = valid_before o k.goes_on.0 v.known
-                  (subst (Valid o) (sym k.goes_on.1) r.valid);
-              built = built_before k.goes_on.0 v.known
-                  (subst AreBuilt (sym k.goes_on.1) r.built);
-              logged = has;
-            }));
+            (one_opening o p (sym live ∙ of)) (follows_of o r.execution w r.valid r.built knows));
       },
     )
 

@@ -1,7 +1,7 @@
 -- A seat may be cut in two, and two may be joined.
 use Rattle.std.proofs.Common.{◌≡◌, ◌≢◌, ℕ, zero, suc, ◌<◌, ◌≤◌, lt-ltb, le-ltb, ◌⊎◌, inl, inr}
 use Rattle.std.proofs.Common.{⊎_elim, Some, List, [], ◌∷◌, ◌++◌, length, set, refl, sym, ap, ◌∙◌}
-use Rattle.std.proofs.Common.{subst, arith, append-nil, length-append}
+use Rattle.std.proofs.Common.{subst, arith, append-nil, append_assoc, length-append}
 use mathlib.Core.Option.{some, some-injective, some-ne-none}
 use lib.ListN.{get_elem?}
 use Rattle.atomic_table.specs.Table.{Splits, Joins}
@@ -16,11 +16,12 @@ use Rattle.index_rule.specs.declared.view.Heard.{Heard}
 use Rattle.index_machine.specs.Openings.{opening_map}
 use Rattle.index_machine.specs.LivePlaces.{history}
 use Rattle.index_machine.specs.Conditions.{Valid}
-use Rattle.index_machine.proofs.Executions.{valid_before}
+use Rattle.index_machine.proofs.Executions.{valid_before, without_append}
 use Rattle.map_model.specs.Logs.{Log, IsLogOf}
 use Rattle.index_rule.specs.Rule.{Owns, AreOwn, Knows, AreApart, Kept, HasLog}
+use Rattle.index_rule.specs.Rule.{GoesOn, GoesOnFromAll}
 use Rattle.index_rule.specs.Seats.{others_left, one_hand, only_first, longer, joined, joined_log}
-use Rattle.index_rule.specs.Seats.{spent}
+use Rattle.index_rule.specs.Seats.{spent, told}
 use Rattle.index_rule.proofs.Steps.{apart_set, is_some}
 use Rattle.index_rule.proofs.Logging.{log_on}
 
@@ -148,6 +149,56 @@ makes_hand o id v of none fresh blank = cut v.numbers refl
         u.0 (subst (λ (z : ℕ). In z cs) (⊎_elim (λ (z : d ≡ c). z) (λ z. absurd z) k) h))
         (λ un. let u : AreDistinct (c ∷ cs) = subst AreDistinct e un in (u.1, ((λ z. z), tt)))
         of none fresh blank)
+
+-- ---- a seat of no hand ----
+
+-- a seat more that is no hand
+apart_told : (views : List View) (id : ℕ) (v : View) → AreApart views →
+    get_elem? views id ≡ some v → AreApart (set views id v ++ told v ∷ [])
+apart_told views id v old at i j c x y p q ox oy =
+    apart_set views id v v old at (λ _ h. h) i j c x y (before i x p ox) (before j y q oy) ox oy
+  where
+    before : (i : ℕ) (x : View) → get_elem? (set views id v ++ told v ∷ []) i ≡ some x →
+        Owns x c → get_elem? (set views id v) i ≡ some x
+    before i x p own =
+        ⊎_elim (λ (a : get_elem? (set views id v) i ≡ some x). a)
+        (λ (a : (i ≡ length (set views id v)) × (told v ≡ x)).
+        absurd (subst (λ (z : View). Owns z c) (sym a.1) own))
+        (at_end (set views id v) (told v) x i p)
+
+told_knows : (o : Opening) (t : Execution) (v : View) → Knows o t v → Knows o t (told v)
+told_knows o t v k =
+    record {
+      opening = k.opening;
+      goes_on = (k.goes_on.0, k.goes_on.1, λ c h. absurd h);
+      heard = tt;
+      own_heard = tt;
+      once = tt;
+      hands = λ c h. absurd h;
+      logged = λ c one. absurd (let bad = one in cc);
+      heard_logged = tt;
+    }
+
+-- the seat may tell what it knows, and stays as it is
+pub tells : (o : Opening) (id : ℕ) (v : View) → v.opening ≡ Some o →
+    Splits (Kept o) id v v (told v)
+tells o id v of s r at =
+    let k = r.known id v at (is_some v.opening o of) in
+    record {
+      execution = r.execution;
+      valid = r.valid;
+      built = r.built;
+      words = r.words;
+      apart = apart_told s.views id v r.apart at;
+      known = λ i u p q. ⊎_elim
+          (λ (a : get_elem? (set s.views id v) i ≡ some u). ⊎_elim
+          (λ (b : (i ≡ id) × (v ≡ u)). subst (Knows o r.execution) b.1 k)
+          (λ (b : (i ≢ id) × (get_elem? s.views i ≡ some u)). r.known i u b.1 q)
+          (at_set s.views id i v u a))
+          (λ (a : (i ≡ length (set s.views id v)) × (told v ≡ u)).
+          subst (Knows o r.execution) a.1 (told_knows o r.execution v k))
+          (at_end (set s.views id v) (told v) u i p);
+    }
 
 -- ---- two beginnings of one execution ----
 
@@ -296,6 +347,24 @@ begins_longer n m v w t en em =
           ([], sym other, λ c out. tt),
         )
 
+-- what goes on from a later execution goes on from an earlier one
+pub goes_further : (fewer numbers : List ℕ) (first second t : Execution) →
+    ((hand : ℕ) → In hand fewer → In hand numbers) → GoesOn fewer first second →
+    GoesOn numbers second t → GoesOn fewer first t
+goes_further fewer numbers first second t sub f g = (
+  g.0 ++ f.0,
+  append_assoc g.0 f.0 first ∙ ap (λ (z : Execution). g.0 ++ z) f.1 ∙ g.1,
+  λ c h. without_append c g.0 f.0 (g.2 c (sub c h)) (f.2 c h),
+)
+
+all_further : (hs : List Heard) (numbers : List ℕ) (known t : Execution) → AreOwn hs numbers →
+    GoesOnFromAll hs known → GoesOn numbers known t → GoesOnFromAll hs t
+all_further [] numbers known t own all on = tt
+all_further (h ∷ hs) numbers known t own all on = (
+  goes_further h.numbers numbers h.known known t own.0 all.0 on,
+  all_further hs numbers known t own.1 all.1 on,
+)
+
 -- the numbers of two seats that are one hand, the first of them being one
 front_is : (n c : ℕ) (ns ws : List ℕ) → n ∷ ns ++ ws ≡ c ∷ [] → n ∷ ns ≡ c ∷ []
 front_is n c [] ws e = let same : n ≡ c = cc in λ i. same i ∷ []
@@ -342,6 +411,14 @@ joined_knows : (o : Opening) (t : Execution) (v w : View) → Valid o t → Know
     Knows o t w → ((c : ℕ) → Owns v c → Owns w c → ⊥) → Knows o t (joined v w)
 joined_knows o t v w valid k g none =
     let two = shared k.goes_on.0 g.goes_on.0 v.known w.known t k.goes_on.1 g.goes_on.1 in
+    let both = begins_longer k.goes_on.0 g.goes_on.0 v.known w.known t k.goes_on.1 g.goes_on.1 in
+    let whole : Execution = longer v.known w.known in
+    let ours : GoesOn v.numbers v.known whole =
+    (both.0.0, both.0.1, λ c h. both.0.2 c (k.goes_on.2 c h))
+    in
+    let theirs : GoesOn w.numbers w.known whole =
+    (both.1.0, both.1.1, λ c h. both.1.2 c (g.goes_on.2 c h))
+    in
     record {
       opening = k.opening;
       goes_on = (
@@ -350,7 +427,7 @@ joined_knows o t v w valid k g none =
         λ c h. ⊎_elim (λ (a : Owns v c). two.2 c (k.goes_on.2 c a))
             (λ (b : Owns w c). two.3 c (g.goes_on.2 c b)) (in_either c v.numbers w.numbers h),
       );
-      heard = (g.goes_on, (k.goes_on, k.heard));
+      heard = (theirs, (ours, all_further v.heard v.numbers v.known whole k.own_heard k.heard ours));
       own_heard = (
         (λ c h. in_right c v.numbers w.numbers h),
         (

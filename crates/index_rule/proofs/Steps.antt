@@ -6,7 +6,8 @@ use Rattle.std.proofs.Common.{subst, eq-eqb, length-set}
 use mathlib.Core.Option.{some}
 use lib.ListN.{get_elem?}
 use Rattle.std.proofs.lemmas.Grind.{merely}
-use Rattle.atomic_table.specs.Table.{Me, keeps, Allows}
+use Rattle.std.proofs.lemmas.List.{set-get_or}
+use Rattle.atomic_table.specs.Table.{State, Me, keeps, Allows}
 use Rattle.atomic_table.proofs.Lists.{at_set}
 use Rattle.word_layout.specs.Words.{Word, IsWord, address_of, word_named, same_word}
 use Rattle.word_layout.proofs.SameWords.{same_word-refl, same_word-true}
@@ -19,14 +20,13 @@ use Rattle.index_machine.specs.Lists.{In}
 use Rattle.index_machine.specs.Words.{limits, store_of, stored, word}
 use Rattle.index_machine.specs.Sections.{crossings, crossings_after}
 use Rattle.index_machine.specs.Conditions.{Allowed, Valid}
-use Rattle.index_machine.proofs.Executions.{crossings_on}
+use Rattle.index_machine.proofs.Executions.{crossings_on, valid_before}
 use Rattle.index_rule.specs.declared.view.View.{View}
-use Rattle.index_rule.specs.declared.view.Heard.{Heard}
-use Rattle.index_rule.specs.Rule.{Owns, GoesOn, GoesOnFromAll, AreOwn, Knows, StandsFor, AreApart}
+use Rattle.index_rule.specs.Rule.{Owns, GoesOn, Knows, StandsFor, AreApart}
 use Rattle.index_rule.specs.Rule.{Kept, Acts, Does, number, first_of, stepped, HasLog, Follows}
 use Rattle.index_rule.specs.Rule.{log_after, logged}
 use Rattle.index_rule.specs.Built.{IsBuilt, AreBuilt}
-use Rattle.index_rule.proofs.Logging.{log_on, log_more}
+use Rattle.index_rule.proofs.Logging.{built_before, log_on, log_more}
 use Rattle.map_model.specs.Logs.{Log, IsLogOf}
 use Rattle.index_machine.specs.Openings.{opening_map}
 use Rattle.index_machine.specs.LivePlaces.{history}
@@ -68,14 +68,39 @@ pub goes_more : (e : Event) (numbers : List ℕ) (known t : Execution) →
 goes_more e numbers known t others g =
     (e ∷ g.0, ap (λ (z : Execution). e ∷ z) g.1, λ c is. (others c is, g.2 c is))
 
-pub all_more : (e : Event) (hs : List Heard) (numbers : List ℕ) (t : Execution) →
-    AreOwn hs numbers → ((hand : ℕ) → In hand numbers → e.by ≢ hand) → GoesOnFromAll hs t →
-    GoesOnFromAll hs (e ∷ t)
-all_more e [] numbers t own others k = tt
-all_more e (h ∷ hs) numbers t own others k = (
-  goes_more e h.numbers h.known t (λ c is. others c (own.0 c is)) k.0,
-  all_more e hs numbers t own.1 others k.1,
-)
+-- ---- a load that is no event ----
+
+-- what a seat that knows a beginning of the execution follows
+pub follows_of : (o : Opening) (t : Execution) (v : View) → Valid o t → AreBuilt t →
+    Knows o t v → Follows o v
+follows_of o t v valid built k =
+    record {
+      valid = valid_before o k.goes_on.0 v.known (subst (Valid o) (sym k.goes_on.1) valid);
+      built = built_before k.goes_on.0 v.known (subst AreBuilt (sym k.goes_on.1) built);
+      logged = k.logged;
+    }
+
+-- one seat knows the execution by another view, as the same hands, and no word changes
+pub kept_with : (o : Opening) (s : State (Unit {0}) View) (id a : ℕ) (v w : View)
+    (r : Kept o s) → get_elem? s.views id ≡ some v → ((hand : ℕ) → Owns w hand → Owns v hand) →
+    Knows o r.execution w →
+    Kept o record {
+      words = slice_set s.words a (slice_index s.words a);
+      homes = s.homes;
+      views = set s.views id w;
+    }
+kept_with o s id a v w r at sub knows =
+    record {
+      execution = r.execution;
+      valid = r.valid;
+      built = r.built;
+      words = subst (λ (z : List ℕ). StandsFor o z r.execution) (sym (set-get_or s.words a 0))
+          r.words;
+      apart = apart_set s.views id v w r.apart at sub;
+      known = λ i u p q. ⊎_elim (λ (b : (i ≡ id) × (w ≡ u)). subst (Knows o r.execution) b.1 knows)
+          (λ (b : (i ≢ id) × (get_elem? s.views i ≡ some u)). r.known i u b.1 q)
+          (at_set s.views id i w u p);
+    }
 
 -- ---- the words ----
 
@@ -146,7 +171,7 @@ known_set o t d views id v w c log mine apart at k is has known i u p q =
     record {
       opening = h.opening;
       goes_on = goes_more (event c d) u.numbers u.known t others h.goes_on;
-      heard = all_more (event c d) u.heard u.numbers t h.own_heard others h.heard;
+      heard = h.heard;
       own_heard = h.own_heard;
       once = h.once;
       hands = h.hands;

@@ -5,6 +5,7 @@ pub mod Steps
 pub mod Hands
 pub mod Moments
 pub mod Looks
+pub mod Notes
 pub mod OwnRows
 pub mod Seats
 pub mod Opened

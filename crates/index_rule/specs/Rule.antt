@@ -37,7 +37,7 @@ abbrev pub GoesOn : List ℕ → Execution → Execution → Type 0
 GoesOn numbers known t =
     (newer : Execution) × (newer ++ known ≡ t) × ((hand : ℕ) → In hand numbers → Without hand newer)
 
--- the execution goes on from all that was heard
+-- so it does from all that was heard
 abbrev pub GoesOnFromAll : List Heard → Execution → Type 0
 GoesOnFromAll [] t = Unit {0}
 GoesOnFromAll (h ∷ hs) t = GoesOn h.numbers h.known t × GoesOnFromAll hs t
@@ -59,11 +59,11 @@ AreLogged o (h ∷ hs) =
     ((hand : ℕ) → h.numbers ≡ hand ∷ [] → IsLogOf (opening_map o) hand (history h.known) h.log)
     × AreLogged o hs
 
--- the seat knows a beginning of the execution
+-- the seat knows a beginning of the execution, which goes on from all that it was told
 pub record Knows (o : Opening) (t : Execution) (v : View) : Type 0 where
   pub opening : v.opening ≡ Some o
   pub goes_on : GoesOn v.numbers v.known t
-  pub heard : GoesOnFromAll v.heard t
+  pub heard : GoesOnFromAll v.heard v.known
   pub own_heard : AreOwn v.heard v.numbers
   pub once : AreDistinct v.numbers
   pub hands : (hand : ℕ) → Owns v hand → IsHand o hand

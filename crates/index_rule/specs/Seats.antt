@@ -33,6 +33,11 @@ abbrev pub rest_of : Opening → ℕ → ℕ → View
 rest_of o hand n =
     record { numbers = counting hand n; opening = Some o; known = []; heard = []; log = [] }
 
+-- a seat of no hand that knows what this one knows
+abbrev pub told : View → View
+told v =
+    record { numbers = []; opening = v.opening; known = v.known; heard = []; log = [] }
+
 -- ---- joining ----
 
 -- the longer of two beginnings of one execution
@@ -57,6 +62,10 @@ joined v w =
       heard = heard_of w ∷ heard_of v ∷ v.heard;
       log = joined_log v.numbers v.log w.log;
     }
+
+-- the seat, once what it heard has become part of what it knows
+abbrev pub settled : View → View
+settled v = record v { heard = [] }
 
 -- a seat that was taken in by another
 abbrev pub spent : View

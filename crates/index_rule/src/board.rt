@@ -15,6 +15,7 @@ mod looking;
 mod opening;
 mod records;
 mod root;
+mod telling;
 
 /// The shared words of one index. Each call that is given a hand is one atomic step, and keeps
 /// the rule.

@@ -153,6 +153,14 @@ impl<L: Sight> Play<(), View> for NotesLook<L> {
     ghost then = { λ st me n w. Notes L.start L.key L.found me w };
 }
 
+pub struct SettlesHeard;
+
+impl Play<(), View> for SettlesHeard {
+    ghost use Rattle.index_rule.specs.Notes.{Settles};
+
+    ghost then = { λ st me n w. Settles me w };
+}
+
 pub struct MakesHand;
 
 impl Split<View> for MakesHand {
@@ -161,6 +169,16 @@ impl Split<View> for MakesHand {
     ghost left = { others_left };
 
     ghost right = { one_hand };
+}
+
+pub struct TellsNote;
+
+impl Split<View> for TellsNote {
+    ghost use Rattle.index_rule.specs.Seats.{told};
+
+    ghost left = { λ v. v };
+
+    ghost right = { told };
 }
 
 pub struct TakesIn;

@@ -5,7 +5,8 @@ use std::collections::LinkedList;
 
 /// What one seat knows.
 pub struct View {
-    /// The numbers of the hands that the seat is: one for a hand, all when the table is opened.
+    /// The numbers of the hands that the seat is: one for a hand, none for a note, all when the table is
+    /// opened.
     pub numbers: LinkedList<u64>,
     /// `None` where the seat was joined into another.
     pub opening: Option<Opening>,

@@ -1,19 +1,18 @@
 -- How a log goes on.
-use Rattle.std.proofs.Common.{◌≡◌, ◌≢◌, ℕ, ◌+◌, ◌<◌, ◌≤◌, Bool, true, false, cond, ◌==◌, nat_lt}
-use Rattle.std.proofs.Common.{Option, Some, None, List, [], ◌∷◌, ◌++◌, length, length-append, refl, sym, ap, ◌∙◌, subst}
+use Rattle.std.proofs.Common.{◌≡◌, ℕ, ◌<◌, ◌≤◌, Bool, true, false, cond, ◌==◌}
+use Rattle.std.proofs.Common.{Option, Some, [], ◌∷◌, ◌++◌, length, length-append, refl, sym, ap, ◌∙◌, subst}
 use Rattle.std.proofs.Common.{arith, eq-eqb, ne_eqb, lt-ltb, le-ltb}
 use Rattle.std.proofs.lemmas.Bool.Decides.{nat_tests}
 use Rattle.map_model.specs.declared.entries.Change.{Change}
 use Rattle.map_model.specs.declared.entries.Entry.{Entry}
 use Rattle.map_model.specs.declared.entries.Entry.TheVariants.{Made, Look}
 use Rattle.map_model.specs.declared.entries.Change.TheVariants as change
-use Rattle.map_model.specs.Map.{Map, IsRising, look, map_after, key_of}
+use Rattle.map_model.specs.Map.{Map, IsRising, look, key_of}
 use Rattle.map_model.specs.Answer.{pair_at}
 use Rattle.map_model.proofs.Pairs.{found-at_one, rising-put, rising-remove}
 use Rattle.map_model.specs.Entry.{StandsBetween}
-use Rattle.map_model.specs.History.{History, after, caller_of, changes_by}
-use Rattle.map_model.specs.Logs.{before_place, change_at, StandsIn, Log, AllStandIn, IsLogOf}
-use Rattle.map_model.specs.Logs.{least_place, changes_of}
+use Rattle.map_model.specs.History.{History, after, caller_of}
+use Rattle.map_model.specs.Logs.{before_place, change_at, StandsIn, Log, AllStandIn}
 use Rattle.map_model.specs.LogLaws.{LogsEndInTheHistory, OthersKeepLogs, ChangesEndLogs, LooksEndLogs}
 
 -- ---- places ----

@@ -6,6 +6,7 @@ use Rattle.map_model.specs.declared.entries.Change.{Change}
 use Rattle.map_model.specs.declared.entries.Change.TheVariants as change
 use Rattle.map_model.specs.Map.{Map, look, map_after, key_of}
 
+-- the changes of the map, the newest first
 abbrev pub History : Type 0
 History = List Change
 

@@ -1,7 +1,6 @@
 -- How a log goes on, as statements.
 use Rattle.std.specs.Prelude.{◌≡◌, ◌≢◌, ℕ, ◌≤◌, Option, ◌∷◌, length}
 use Rattle.map_model.specs.declared.entries.Change.{Change}
-use Rattle.map_model.specs.declared.entries.Entry.{Entry}
 use Rattle.map_model.specs.declared.entries.Entry.TheVariants.{Made, Look}
 use Rattle.map_model.specs.Map.{Map, look, key_of}
 use Rattle.map_model.specs.History.{History, after, caller_of}

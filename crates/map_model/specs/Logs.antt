@@ -35,6 +35,7 @@ StandsIn m h (Look place lo hi found) =
 
 -- ---- logs ----
 
+-- the entries of one caller's answered calls, the newest first
 abbrev pub Log : Type 0
 Log = List Entry
 

@@ -6,6 +6,7 @@ use Rattle.std.proofs.Props.{props}
 use Rattle.map_model.specs.declared.entries.Change.{Change}
 use Rattle.map_model.specs.declared.entries.Change.TheVariants as change
 
+-- pairs of a key and its value
 abbrev pub Map : Type 0
 Map = List (ℕ × ℕ)
 

@@ -127,15 +127,18 @@ module _ (b : Board) (h k : Hand) (place word : ℕ) (ready : IsReadyAt b h plac
       (in_place o (known k) (built_known b h k (LoadState place word) ready.of m) place)
       (not_blank o (known k) valid place keyed.0 keyed.1) says_word
 
-  -- so the record was found in its place
-  pub found_here : IsFoundAt b h place place word k
-  found_here =
+  -- so a record was found in its place
+  pub found_as : IsRecordWord word → IsFoundAt b h place place word k
+  found_as is =
       record {
         steps = inl (refl, m);
         says = says_word;
-        is_record = is_record_word;
+        is_record = is;
         same_key = key_on b h k (LoadState place word) place tt m ready;
       }
+
+  pub found_here : IsFoundAt b h place place word k
+  found_here = found_as is_record_word
 
 -- ---- what was found ----
 

@@ -2,3 +2,6 @@ pub mod Found
 pub mod Told
 pub mod Locked
 pub mod Changed
+pub mod Entering
+pub mod Revivable
+pub mod Revived

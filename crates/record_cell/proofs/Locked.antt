@@ -48,12 +48,12 @@ module _ (b : Board) (h m : Hand) (place at word : ℕ) (ready : IsReadyAt b h p
     ),
   )
 
-  pub worn_refused : word ≡ worn_word → IsRefused b h place (wrote.Worn at word) m
+  pub worn_refused : word ≡ worn_word false → IsRefused b h place (wrote.Worn at word) m
   worn_refused worn = (
     still,
     λ change. (
       (found.steps, worn),
-      (log, finds_last b h m place at word ready found worn, found.same_key),
+      (log, finds_last b h m place at word false ready found worn, found.same_key),
     ),
   )
 

@@ -1,5 +1,5 @@
 -- What the answers on a record tell of its key.
-use Rattle.std.proofs.Common.{◌≡◌, inl, inr, ⊎_elim, ℕ, true, false, Option, Some}
+use Rattle.std.proofs.Common.{◌≡◌, inl, inr, ⊎_elim, ℕ, Bool, true, false, Option, Some}
 use Rattle.std.proofs.Common.{None, ◌+◌, ◌≤◌, ◌++◌, refl, sym, ap, ◌∙◌, subst}
 use Rattle.index_machine.specs.declared.events.Action.TheVariants.{LoadState, LoadValue}
 use Rattle.index_machine.specs.declared.opening.Opening.{Opening}
@@ -165,13 +165,14 @@ finds_lock b h k place at word ready number can found locked = (
 )
 
 -- the last version tells of the changes of its key
-pub finds_last : (b : Board) (h k : Hand) (place at word : ℕ) → IsReadyAt b h place →
-    IsFoundAt b h place at word k → word ≡ worn_word → FindsLastVersion b h place k
-finds_last b h k place at word ready found worn =
+pub finds_last : (b : Board) (h k : Hand) (place at word : ℕ) (removed : Bool) →
+    IsReadyAt b h place → IsFoundAt b h place at word k → word ≡ worn_word removed →
+    FindsLastVersion b h place k
+finds_last b h k place at word removed ready found worn =
     let o = opening_of b in
     let here = found_in_place b h k place at word ready found.steps in
     let valid = valid_known b h k (LoadState place word) ready.of here.1 in
-    let f = unlocked_by_word (form o at (known k)) last_version false
+    let f = unlocked_by_word (form o at (known k)) last_version removed
     (not_blank o (known k) valid at found.same_key.0 found.same_key.2) (found.says ∙ worn) in
     let count = (versions_count_changes o (known k) valid).most at found.same_key.0 last_version
     found.same_key.2 (subst (λ (z : Form). HasVersion z last_version) (sym f.1) refl) in (

@@ -24,12 +24,12 @@ IsTombstoneState word = (version : ℕ) × (word ≡ word_of_state (Direct versi
 abbrev pub IsLiveState : ℕ → Type 0
 IsLiveState word = (version : ℕ) × (word ≡ word_of_state (Direct version false false))
 
--- the word of an unlocked record with a value, whose version can still be raised
-abbrev pub IsChangeable : ℕ → Type 0
-IsChangeable word = (version : ℕ) × IsUnlockedWord version false word
+-- the word of an unlocked record, removed or with a value, whose version can still be raised
+abbrev pub IsChangeable : Bool → ℕ → Type 0
+IsChangeable removed word = (version : ℕ) × IsUnlockedWord version removed word
 
 -- the word of a record says this of it
 abbrev pub SaysCondition : ℕ → Condition → Type 0
 SaysCondition word condition.Locked = IsLockedState word
-SaysCondition word condition.Tombstone = IsTombstoneState word
+SaysCondition word (condition.Tombstone version) = word ≡ word_of_state (Direct version false true)
 SaysCondition word (condition.Live version) = word ≡ word_of_state (Direct version false false)

@@ -3,3 +3,5 @@ pub mod Finding
 pub mod Reads
 pub mod Writes
 pub mod Locking
+pub mod Visits
+pub mod Reviving

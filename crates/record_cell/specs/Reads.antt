@@ -3,7 +3,7 @@ use Rattle.std.specs.Prelude.{◌≡◌, ◌≢◌, ◌⊎◌, ℕ, Bool, Some, 
 use Rattle.index_machine.specs.declared.events.Action.TheVariants.{LoadState, LoadValue}
 use Rattle.index_machine.specs.declared.opening.Opening.{Opening}
 use Rattle.index_machine.specs.Execution.{Execution}
-use Rattle.index_machine.specs.Forms.{Form, Copied, IsLockedBy}
+use Rattle.index_machine.specs.Forms.{Form, Copied, IsLockedBy, live_value}
 use Rattle.index_machine.specs.Places.{form}
 use Rattle.index_machine.specs.LivePlaces.{value_in_map}
 use Rattle.index_machine.specs.Rows.{InArray, role, role_key}
@@ -63,6 +63,14 @@ FindsNone b h place k =
     let key = key_at o place (known h) in
     (moment : Execution) × IsWithin h k moment × HasNoValue o moment place
     × (HasNoValueElsewhere o key place moment → value_in_map o key moment ≡ None)
+
+-- the place had a value at a moment of the call, and so had its key in the map
+abbrev pub FindsLive : Board → Hand → ℕ → Hand → Type 0
+FindsLive b h place k =
+    let o = opening_of b in
+    (moment : Execution) × IsWithin h k moment
+    × (value : ℕ) × (live_value (form o place moment) ≡ Some value)
+    × (value_in_map o (key_at o place (known h)) moment ≡ Some value)
 
 -- another hand holds the version lock, or the keeper still does after the record was copied
 abbrev pub IsHeldByAnother : ℕ → Form → Type 0

@@ -1,5 +1,5 @@
 -- What a change of a record did, and what its answer tells.
-use Rattle.std.specs.Prelude.{◌≡◌, ◌≢◌, ℕ, ◌+◌, ◌≤◌, true, false, Some, None, List, [], ◌∷◌}
+use Rattle.std.specs.Prelude.{◌≡◌, ◌≢◌, ℕ, Bool, ◌+◌, ◌≤◌, true, false, Some, None, List, [], ◌∷◌}
 use Rattle.map_model.specs.declared.entries.Change.{Change}
 use Rattle.map_model.specs.declared.entries.Change.TheVariants.{Put, Remove}
 use Rattle.map_model.specs.History.{changes_at}
@@ -42,9 +42,9 @@ changing at word old (Put c k value) stored =
 changing at word old (Remove c k) stored =
     Unlock at true (Remove c k) stored ∷ LoadValue at old ∷ Lock at word ∷ []
 
--- the state word of the last version, whose record has a value
-abbrev pub worn_word : ℕ
-worn_word = word_of_state (Direct last_version false false)
+-- the state word of the last version, of a record that is removed or has a value
+abbrev pub worn_word : Bool → ℕ
+worn_word removed = word_of_state (Direct last_version false removed)
 
 -- ---- the steps ----
 
@@ -53,14 +53,14 @@ abbrev pub Writes : Board → Hand → ℕ → Change → Wrote → Hand → Typ
 Writes b h place change (wrote.Done None) k = ⊥
 Writes b h place change (wrote.Done (Some old)) k =
     (at : ℕ) × (word : ℕ) × (stored : ℕ) × (m : Hand) × Finds b h place at word m
-    × IsChangeable word × MakesAll b m (changing at word old change stored) k
+    × IsChangeable false word × MakesAll b m (changing at word old change stored) k
 Writes b h place change (wrote.Locked at word) k = Finds b h place at word k × IsLockedState word
 Writes b h place change (wrote.Gone word) k =
     (at : ℕ) × Finds b h place at word k × IsTombstoneState word
 Writes b h place change (wrote.Worn at word) k =
-    Finds b h place at word k × (word ≡ worn_word)
+    Finds b h place at word k × (word ≡ worn_word false)
 Writes b h place change (wrote.Raced at expected found) k =
-    (m : Hand) × Finds b h place at expected m × IsChangeable expected
+    (m : Hand) × Finds b h place at expected m × IsChangeable false expected
     × Makes b m (FailLock at expected found) k × (expected ≢ found)
 Writes b h place change (wrote.Live word) k = ⊥
 

@@ -27,7 +27,7 @@ pub enum Wrote {
     Gone {
         word: u64,
     },
-    /// The record is none, by this state word.
+    /// The record has a value, by this state word.
     Live {
         word: u64,
     },

@@ -73,7 +73,7 @@ fn lock_live(board: &Board, hand: &mut Hand, place: u32) -> Result<u32, Wrote>
             place: record.place,
             word: record.word,
         }),
-        Condition::Tombstone => Err(Wrote::Gone { word: record.word }),
+        Condition::Tombstone { .. } => Err(Wrote::Gone { word: record.word }),
         Condition::Live { version } if version < LAST_VERSION => {
             lock(board, hand, record.place, record.word)
         }
@@ -86,7 +86,7 @@ fn lock_live(board: &Board, hand: &mut Hand, place: u32) -> Result<u32, Wrote>
 
 /// Takes the version lock by the state word that was loaded.
 #[inline]
-fn lock(board: &Board, hand: &mut Hand, place: u32, word: u64) -> Result<u32, Wrote>
+pub(crate) fn lock(board: &Board, hand: &mut Hand, place: u32, word: u64) -> Result<u32, Wrote>
     requires can_step { CanStepAt board.now hand.old place }
     requires lockable { IsLockable word }
     ensures number { hand.new.number ≡ hand.old.number }

@@ -19,8 +19,8 @@ pub(crate) struct Record {
 pub(crate) enum Condition {
     /// Its version lock is held.
     Locked,
-    /// It is unlocked, and a tombstone.
-    Tombstone,
+    /// It is unlocked, a tombstone, and has this version.
+    Tombstone { version: u64 },
     /// It is unlocked, has a value, and this version.
     Live { version: u64 },
 }
@@ -32,14 +32,13 @@ impl Condition {
         requires { IsRecordWord word }
         ensures { SaysCondition word result }
     {
+        let version = version_in(word);
         if says_locked(word) {
             Condition::Locked
         } else if says_removed(word) {
-            Condition::Tombstone
+            Condition::Tombstone { version }
         } else {
-            Condition::Live {
-                version: version_in(word),
-            }
+            Condition::Live { version }
         }
     }
 }

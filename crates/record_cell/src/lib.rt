@@ -9,8 +9,12 @@ mod changing;
 mod finding;
 mod laws;
 mod reading;
+mod reviving;
+#[cfg(test)]
+mod tests;
 
 pub use answers::{Read, Wrote};
 pub use changing::{kill, update};
 pub use laws::gone_is_absent;
 pub use reading::read;
+pub use reviving::revive;

@@ -29,7 +29,7 @@ pub fn read(board: &Board, hand: &mut Hand, place: u32) -> Read
             place: record.place,
             word: record.word,
         },
-        Condition::Tombstone => Read::Gone,
+        Condition::Tombstone { .. } => Read::Gone,
         Condition::Live { .. } => {
             let value = board.load_value(hand, record.place);
             let second = board.load_state(hand, record.place);

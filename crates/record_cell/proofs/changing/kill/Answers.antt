@@ -1,4 +1,4 @@
-use Rattle.std.proofs.Common.{ℕ, Some, refl, subst, true}
+use Rattle.std.proofs.Common.{ℕ, inl, Some, refl, subst, true, false}
 use Rattle.map_model.specs.declared.entries.Change.{Change}
 use Rattle.index_machine.specs.declared.events.Action.TheVariants.{Unlock}
 use Rattle.index_rule.specs.Hands.{Makes, known, opening_of}
@@ -17,9 +17,10 @@ store_unlock-requires-clause-may c =
     let n = c.load_value-old.new.hand in
     let l = c.in-Ok.ensures.answer in
     let held = locked_holds b h k c.args.place c.in-Ok.at c.requires.of c.lock_live.ensures.number l in
-    let loaded = loaded_holds b h k n c.args.place c.in-Ok.at l.version l.value l.value held
+    let loaded = loaded_holds b h k n c.args.place c.in-Ok.at l.version false l.value l.value held
     c.load_value-old.result c.load_value-old.ensures in
-    may_release b h n n c.args.place c.in-Ok.at l.version l.value l.value loaded true
+    may_release b h n n c.args.place c.in-Ok.at l.version false l.value l.value loaded true
+    (inl refl)
 
 pub returns-in-Ok-clause-ready : goal.returns-in-Ok-clause-ready
 returns-in-Ok-clause-ready c =
@@ -29,9 +30,9 @@ returns-in-Ok-clause-ready c =
     let n = c.load_value-old.new.hand in
     let l = c.in-Ok.ensures.answer in
     let held = locked_holds b h k c.args.place c.in-Ok.at c.requires.of c.lock_live.ensures.number l in
-    let loaded = loaded_holds b h k n c.args.place c.in-Ok.at l.version l.value l.value held
+    let loaded = loaded_holds b h k n c.args.place c.in-Ok.at l.version false l.value l.value held
     c.load_value-old.result c.load_value-old.ensures in
-    released b h n c.store_unlock.new.hand c.args.place c.in-Ok.at l.version l.value l.value
+    released b h n c.store_unlock.new.hand c.args.place c.in-Ok.at l.version false l.value l.value
     loaded true _ _ c.store_unlock.ensures
 
 pub returns-in-Ok-clause-steps : goal.returns-in-Ok-clause-steps
@@ -42,9 +43,9 @@ returns-in-Ok-clause-steps c =
     let n = c.load_value-old.new.hand in
     let l = c.in-Ok.ensures.answer in
     let held = locked_holds b h k c.args.place c.in-Ok.at c.requires.of c.lock_live.ensures.number l in
-    let loaded = loaded_holds b h k n c.args.place c.in-Ok.at l.version l.value l.value held
+    let loaded = loaded_holds b h k n c.args.place c.in-Ok.at l.version false l.value l.value held
     c.load_value-old.result c.load_value-old.ensures in
-    let gone = remove_is b h n n c.args.place c.in-Ok.at l.version l.value l.value loaded in
+    let gone = remove_is b h n n c.args.place c.in-Ok.at l.version false l.value l.value loaded in
     let word : ℕ = unlocked_word (opening_of b) c.in-Ok.at true (known n) in (
       c.in-Ok.at,
       l.word,
@@ -68,15 +69,15 @@ returns-in-Ok-clause-tells c =
     let n = c.load_value-old.new.hand in
     let l = c.in-Ok.ensures.answer in
     let held = locked_holds b h k c.args.place c.in-Ok.at c.requires.of c.lock_live.ensures.number l in
-    let loaded = loaded_holds b h k n c.args.place c.in-Ok.at l.version l.value l.value held
+    let loaded = loaded_holds b h k n c.args.place c.in-Ok.at l.version false l.value l.value held
     c.load_value-old.result c.load_value-old.ensures in
-    let gone = remove_is b h n n c.args.place c.in-Ok.at l.version l.value l.value loaded in
-    let was = loaded_is b h k n c.args.place c.in-Ok.at l.version l.value l.value held
+    let gone = remove_is b h n n c.args.place c.in-Ok.at l.version false l.value l.value loaded in
+    let was = loaded_is b h k n c.args.place c.in-Ok.at l.version false l.value l.value held
     c.load_value-old.result c.load_value-old.ensures in
     let word : ℕ = unlocked_word (opening_of b) c.in-Ok.at true (known n) in
     let last = subst (λ (d : Change). Makes b n (Unlock c.in-Ok.at true d word) c.store_unlock.new.hand)
     gone c.store_unlock.ensures in
     subst
     (λ (z : ℕ). AddsChange b h (remove_at b h c.args.place) (Some z) c.store_unlock.new.hand) was
-    (adds_change b h n c.store_unlock.new.hand c.args.place c.in-Ok.at l.version l.value l.value
-    loaded true (remove_at b h c.args.place) word last refl)
+    (adds_change b h n c.store_unlock.new.hand c.args.place c.in-Ok.at l.version false l.value l.value
+    loaded true (remove_at b h c.args.place) word last refl refl)

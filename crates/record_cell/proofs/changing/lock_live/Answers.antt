@@ -19,7 +19,7 @@ returns-in-Tombstone-clause-answer c =
     let f = c.find-record.ensures in
     let r = c.find-record.result in
     gone_refused c.args.board.now c.args.hand.now c.find-record.new.hand c.args.place r.place r.word
-    c.requires f.number f.ready f.can_step f.found f.log c.in-Tombstone.ensures
+    c.requires f.number f.ready f.can_step f.found f.log (c.in-Tombstone.version, c.in-Tombstone.ensures)
 
 pub lock-requires-clause-lockable : goal.lock-requires-clause-lockable
 lock-requires-clause-lockable c =

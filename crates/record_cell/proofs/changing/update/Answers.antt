@@ -1,11 +1,11 @@
-use Rattle.std.proofs.Common.{ℕ, Some, refl, subst, false}
+use Rattle.std.proofs.Common.{ℕ, inl, Some, refl, subst, false}
 use Rattle.map_model.specs.declared.entries.Change.{Change}
 use Rattle.index_machine.specs.declared.events.Action.TheVariants.{Unlock}
 use Rattle.index_rule.specs.Hands.{Makes, known, opening_of}
 use Rattle.index_rule.specs.Records.{unlocked_word}
 use Rattle.index_rule.specs.Moments.{AddsChange}
 use Rattle.record_cell.specs.Writes.{put_at}
-use Rattle.record_cell.proofs.Changed.{adds_change, loaded_holds, loaded_is, locked_holds}
+use Rattle.record_cell.proofs.Changed.{adds_change, holds_lock, loaded_holds, loaded_is, locked_holds}
 use Rattle.record_cell.proofs.Changed.{may_release, put_is, released, stored_holds}
 use Rattle.record_cell.proofs.changing.update.Goals as goal
 
@@ -17,9 +17,9 @@ store_value-requires-clause-holds c =
     let n = c.load_value-old.new.hand in
     let l = c.in-Ok.ensures.answer in
     let held = locked_holds b h k c.args.place c.in-Ok.at c.requires.of c.lock_live.ensures.number l in
-    let loaded = loaded_holds b h k n c.args.place c.in-Ok.at l.version l.value l.value held
+    let loaded = loaded_holds b h k n c.args.place c.in-Ok.at l.version false l.value l.value held
     c.load_value-old.result c.load_value-old.ensures in
-    (may_release b h n n c.args.place c.in-Ok.at l.version l.value l.value loaded false).holds
+    holds_lock b h n n c.args.place c.in-Ok.at l.version false l.value l.value loaded
 
 pub store_unlock-requires-clause-may : goal.store_unlock-requires-clause-may
 store_unlock-requires-clause-may c =
@@ -30,11 +30,12 @@ store_unlock-requires-clause-may c =
     let s = c.store_value.new.hand in
     let l = c.in-Ok.ensures.answer in
     let held = locked_holds b h k c.args.place c.in-Ok.at c.requires.of c.lock_live.ensures.number l in
-    let loaded = loaded_holds b h k n c.args.place c.in-Ok.at l.version l.value l.value held
+    let loaded = loaded_holds b h k n c.args.place c.in-Ok.at l.version false l.value l.value held
     c.load_value-old.result c.load_value-old.ensures in
-    let stored = stored_holds b h n s c.args.place c.in-Ok.at l.version l.value l.value loaded
+    let stored = stored_holds b h n s c.args.place c.in-Ok.at l.version false l.value l.value loaded
     c.args.value c.store_value.ensures in
-    may_release b h s s c.args.place c.in-Ok.at l.version l.value c.args.value stored false
+    may_release b h s s c.args.place c.in-Ok.at l.version false l.value c.args.value stored false
+    (inl refl)
 
 pub returns-in-Ok-clause-ready : goal.returns-in-Ok-clause-ready
 returns-in-Ok-clause-ready c =
@@ -45,11 +46,11 @@ returns-in-Ok-clause-ready c =
     let s = c.store_value.new.hand in
     let l = c.in-Ok.ensures.answer in
     let held = locked_holds b h k c.args.place c.in-Ok.at c.requires.of c.lock_live.ensures.number l in
-    let loaded = loaded_holds b h k n c.args.place c.in-Ok.at l.version l.value l.value held
+    let loaded = loaded_holds b h k n c.args.place c.in-Ok.at l.version false l.value l.value held
     c.load_value-old.result c.load_value-old.ensures in
-    let stored = stored_holds b h n s c.args.place c.in-Ok.at l.version l.value l.value loaded
+    let stored = stored_holds b h n s c.args.place c.in-Ok.at l.version false l.value l.value loaded
     c.args.value c.store_value.ensures in
-    released b h s c.store_unlock.new.hand c.args.place c.in-Ok.at l.version l.value c.args.value
+    released b h s c.store_unlock.new.hand c.args.place c.in-Ok.at l.version false l.value c.args.value
     stored false _ _ c.store_unlock.ensures
 
 pub returns-in-Ok-clause-steps : goal.returns-in-Ok-clause-steps
@@ -61,11 +62,11 @@ returns-in-Ok-clause-steps c =
     let s = c.store_value.new.hand in
     let l = c.in-Ok.ensures.answer in
     let held = locked_holds b h k c.args.place c.in-Ok.at c.requires.of c.lock_live.ensures.number l in
-    let loaded = loaded_holds b h k n c.args.place c.in-Ok.at l.version l.value l.value held
+    let loaded = loaded_holds b h k n c.args.place c.in-Ok.at l.version false l.value l.value held
     c.load_value-old.result c.load_value-old.ensures in
-    let stored = stored_holds b h n s c.args.place c.in-Ok.at l.version l.value l.value loaded
+    let stored = stored_holds b h n s c.args.place c.in-Ok.at l.version false l.value l.value loaded
     c.args.value c.store_value.ensures in
-    let put = put_is b h s s c.args.place c.in-Ok.at l.version l.value c.args.value stored in
+    let put = put_is b h s s c.args.place c.in-Ok.at l.version false l.value c.args.value stored in
     let word : ℕ = unlocked_word (opening_of b) c.in-Ok.at false (known s) in (
       c.in-Ok.at,
       l.word,
@@ -90,12 +91,12 @@ returns-in-Ok-clause-tells c =
     let s = c.store_value.new.hand in
     let l = c.in-Ok.ensures.answer in
     let held = locked_holds b h k c.args.place c.in-Ok.at c.requires.of c.lock_live.ensures.number l in
-    let loaded = loaded_holds b h k n c.args.place c.in-Ok.at l.version l.value l.value held
+    let loaded = loaded_holds b h k n c.args.place c.in-Ok.at l.version false l.value l.value held
     c.load_value-old.result c.load_value-old.ensures in
-    let stored = stored_holds b h n s c.args.place c.in-Ok.at l.version l.value l.value loaded
+    let stored = stored_holds b h n s c.args.place c.in-Ok.at l.version false l.value l.value loaded
     c.args.value c.store_value.ensures in
-    let put = put_is b h s s c.args.place c.in-Ok.at l.version l.value c.args.value stored in
-    let was = loaded_is b h k n c.args.place c.in-Ok.at l.version l.value l.value held
+    let put = put_is b h s s c.args.place c.in-Ok.at l.version false l.value c.args.value stored in
+    let was = loaded_is b h k n c.args.place c.in-Ok.at l.version false l.value l.value held
     c.load_value-old.result c.load_value-old.ensures in
     let word : ℕ = unlocked_word (opening_of b) c.in-Ok.at false (known s) in
     let last = subst (λ (d : Change). Makes b s (Unlock c.in-Ok.at false d word) c.store_unlock.new.hand)
@@ -103,5 +104,5 @@ returns-in-Ok-clause-tells c =
     subst
     (λ (z : ℕ). AddsChange b h (put_at b h c.args.place c.args.value) (Some z)
     c.store_unlock.new.hand) was
-    (adds_change b h s c.store_unlock.new.hand c.args.place c.in-Ok.at l.version l.value c.args.value
-    stored false (put_at b h c.args.place c.args.value) word last refl)
+    (adds_change b h s c.store_unlock.new.hand c.args.place c.in-Ok.at l.version false l.value c.args.value
+    stored false (put_at b h c.args.place c.args.value) word last refl refl)

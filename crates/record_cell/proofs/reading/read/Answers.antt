@@ -20,7 +20,7 @@ returns-in-Locked-clause-tells c =
 pub returns-in-Tombstone-clause-tells : goal.returns-in-Tombstone-clause-tells
 returns-in-Tombstone-clause-tells c =
     finds_none c.args.board.now c.args.hand.now c.find-record.new.hand c.args.place
-    c.find-record.result.place _ c.requires c.find-record.ensures.found c.in-Tombstone.ensures
+    c.find-record.result.place _ c.requires c.find-record.ensures.found (c.in-Tombstone.version, c.in-Tombstone.ensures)
 
 pub returns-then-second-record-clause-ready : goal.returns-then-second-record-clause-ready
 returns-then-second-record-clause-ready c =

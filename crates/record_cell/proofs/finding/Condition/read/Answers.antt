@@ -17,12 +17,11 @@ returns-then-says_removed c =
     let l : Bool = c.requires.1 in
     let r : Bool = c.requires.2 in
     let unlocked = sym (c.says_locked.ensures v l r (sym c.requires.3)) ∙ c.if-says_locked.false in
-    let removed = sym (c.says_removed.ensures v l r (sym c.requires.3)) ∙ c.if-says_removed.true in (
-      v,
-      c.requires.3
-          ∙ ap (λ (z : Bool × Bool). word_of_state (Direct v z.0 z.1))
-          (λ i. (unlocked i, removed i)),
-    )
+    let removed = sym (c.says_removed.ensures v l r (sym c.requires.3)) ∙ c.if-says_removed.true in
+    let version = sym (c.version_in-version.ensures v l r (sym c.requires.3)) in
+    c.requires.3
+    ∙ ap (λ (z : ℕ × Bool × Bool). word_of_state (Direct z.0 z.1 z.2))
+    (λ i. (version i, unlocked i, removed i))
 
 pub returns-else-says_removed : goal.returns-else-says_removed
 returns-else-says_removed c =
@@ -31,7 +30,7 @@ returns-else-says_removed c =
     let r : Bool = c.requires.2 in
     let unlocked = sym (c.says_locked.ensures v l r (sym c.requires.3)) ∙ c.if-says_locked.false in
     let kept = sym (c.says_removed.ensures v l r (sym c.requires.3)) ∙ c.if-says_removed.false in
-    let version = sym (c.version_in.ensures v l r (sym c.requires.3)) in
+    let version = sym (c.version_in-version.ensures v l r (sym c.requires.3)) in
     c.requires.3
     ∙ ap (λ (z : ℕ × Bool × Bool). word_of_state (Direct z.0 z.1 z.2))
     (λ i. (version i, unlocked i, kept i))
