@@ -23,4 +23,5 @@ pub mod Calls
 pub mod RecordStepping
 pub mod RecordReading
 pub mod RootStepping
+pub mod BufferStepping
 pub mod Heeding
