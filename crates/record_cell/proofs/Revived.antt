@@ -160,6 +160,7 @@ module _ (b : Board) (h m : Hand) (place word : ℕ) (ready : IsReadyAt b h plac
           let lives = ap live_value f.1 in (
             known m,
             within_end h m (begins b h m (LoadState place word) ready.of load),
+            same_role b h m (LoadState place word) ready.of load tt place ready.at_own.there,
             f.0,
             lives,
             subst (λ (z : ℕ). value_in_map o z (known m) ≡ Some f.0)

@@ -74,7 +74,7 @@ FindsNone b h place k =
 abbrev pub FindsLive : Board → Hand → ℕ → Hand → Type 0
 FindsLive b h place k =
     let o = opening_of b in
-    (moment : Execution) × IsWithin h k moment
+    (moment : Execution) × IsWithin h k moment × IsStill b h place moment
     × (value : ℕ) × (live_value (form o place moment) ≡ Some value)
     × (value_in_map o (key_at o place (known h)) moment ≡ Some value)
 
