@@ -10,14 +10,15 @@ use Rattle.index_machine.specs.declared.events.Action.{Action}
 use Rattle.index_machine.specs.declared.events.Action.TheVariants.{LinkRow, LoadHead, LoadKey}
 use Rattle.index_machine.specs.declared.events.Action.TheVariants.{LoadLink, LoadPhase}
 use Rattle.index_machine.specs.Execution.{Execution}
-use Rattle.index_machine.specs.Groups.{phase}
+use Rattle.index_machine.specs.Groups.{phase, rebuild}
+use Rattle.index_machine.specs.KeyRanges.{group_of}
 use Rattle.index_machine.specs.Permissions.{MayInsertInto}
-use Rattle.index_machine.specs.Reaching.{names_place, reached, reached_after, saw_open}
+use Rattle.index_machine.specs.Reaching.{names_place, reached, reached_after, saw_open, saw_opened}
 use Rattle.index_machine.specs.Reaching.{saw_open_after, stands_in}
 use Rattle.index_machine.specs.Conditions.{Valid}
 use Rattle.index_machine.specs.Openings.{opening_group}
 use Rattle.index_machine.specs.declared.opening.Opening.{Opening}
-use Rattle.word_layout.specs.declared.phase.Phase.TheVariants.{Open}
+use Rattle.word_layout.specs.declared.phase.Phase.TheVariants.{Open, Opened}
 use Rattle.machine_buffers.specs.Groups.{Answers}
 use Rattle.index_rule.specs.Built.{AreBuilt}
 use Rattle.index_rule.proofs.BuiltLaws.{groups_as_opened}
@@ -26,13 +27,17 @@ use Rattle.std.specs.Prelude.{◌==◌, ◌&&◌}
 use Rattle.index_machine.specs.RecordConditions.{IsLinkInto}
 use Rattle.index_machine.specs.Represents.{has_stale_phase}
 use Rattle.index_machine.specs.Rows.{InBuffer, role, role_key}
-use Rattle.index_machine.specs.Sections.{IsCaller, IsNoCrossing}
+use Rattle.index_machine.specs.Sections.{IsCaller, IsNoCrossing, StaysInside}
 use Rattle.index_machine.proofs.Executions.{choice-same, own_step}
+use Rattle.machine_buffers.proofs.Inserting.{link_behind_opened, link_open}
 use Rattle.machine_buffers.proofs.Leave.{leave_while}
+use Rattle.machine_readers.specs.Readers.{ArrayHasNone, BufferHasNone}
+use Rattle.machine_readers.specs.Redirects.{IsBehind}
+use Rattle.index_rule.specs.Buffers.{BelongsWhileAbsent}
 use Rattle.machine_buffers.proofs.Phases.{true_while}
 use Rattle.machine_buffers.proofs.Walks.{decide, of_keys, stay_before, true_of_keys, walkable_while}
 use Rattle.machine_buffers.specs.Walks.{Decides, IsLinkBefore, IsWalkable}
-use Rattle.machine_readers.proofs.ReadSections.{place_on}
+use Rattle.machine_readers.proofs.ReadSections.{place_on, saw_open_on}
 use Rattle.index_rule.specs.declared.board.Board.{Board}
 use Rattle.index_rule.specs.declared.hand.Hand.{Hand}
 use Rattle.index_rule.specs.Hands.{IsHandOf, Makes, known, opening_of}
@@ -230,3 +235,24 @@ row_linked b h k g place d before next of m =
     ap (role (opening_of b) place) (known_is b h k (LinkRow g place d before next) of m)
     ∙ choice-same place place (InBuffer g (key_of d))
     (role (opening_of b) place (m.acts.0 ++ known h)) refl
+
+-- ---- where a caller may link ----
+
+-- in the group that it saw open, a key without a value in the array belongs while it has no row
+pub belongs_where_open : (o : Opening) (c g j : ℕ) → IsCaller o c → (newer t : Execution) →
+    StaysInside c newer → stands_in c g t ≡ true → group_of o j t ≡ g →
+    ArrayHasNone o (newer ++ t) g j → saw_open c g (newer ++ t) ≡ true →
+    BelongsWhileAbsent o c g j (newer ++ t)
+belongs_where_open o c g j caller newer t stay s own none seen later valid out gap =
+    link_open o c g j caller later newer t valid stay (stays_inside c later out) s own none
+    (saw_open_on c g later (newer ++ t) (stays_inside c later out) seen) gap
+
+-- and behind a group that it saw opened, in the buffer of the new one
+pub belongs_behind_opened : (o : Opening) (c old f new j : ℕ) → IsCaller o c → old ≢ new →
+    (t : Execution) → stands_in c old t ≡ true → phase old t ≡ Opened f →
+    saw_opened c f t ≡ true → rebuild new t ≡ Some f → IsBehind o t old f new j →
+    ArrayHasNone o t old j → BufferHasNone o t old j → BelongsWhileAbsent o c new j t
+belongs_behind_opened o c old f new j caller apart t s at saw made behind arrays buffer later valid
+    out gap =
+    link_behind_opened o c old f new j caller apart later t valid (stays_inside c later out) s at
+    saw made behind arrays buffer gap
