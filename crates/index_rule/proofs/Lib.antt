@@ -1,6 +1,7 @@
 pub mod BuiltLaws
 pub mod Logging
 pub mod Steps
+pub mod Moments
 pub mod Looking
 pub mod Seats
 pub mod Telling
