@@ -8,37 +8,51 @@ use Rattle.map_model.specs.declared.entries.Change.{Change}
 use Rattle.word_layout.specs.Phase.{word_of_phase}
 use Rattle.index_machine.specs.declared.events.Action.{Action}
 use Rattle.index_machine.specs.declared.events.Action.TheVariants.{LinkRow, LoadHead, LoadKey}
-use Rattle.index_machine.specs.declared.events.Action.TheVariants.{LoadLink, LoadPhase}
+use Rattle.index_machine.specs.declared.events.Action.TheVariants.{LoadLink, LoadPhase, StorePrivate}
 use Rattle.index_machine.specs.Execution.{Execution}
-use Rattle.index_machine.specs.Groups.{phase}
+use Rattle.index_machine.specs.Groups.{phase, rebuild}
+use Rattle.index_machine.specs.KeyRanges.{group_of}
 use Rattle.index_machine.specs.Permissions.{MayInsertInto}
-use Rattle.index_machine.specs.Reaching.{names_place, reached, reached_after, saw_open}
+use Rattle.index_machine.specs.Reaching.{names_place, reached, reached_after, saw_open, saw_opened}
 use Rattle.index_machine.specs.Reaching.{saw_open_after, stands_in}
 use Rattle.index_machine.specs.Conditions.{Valid}
 use Rattle.index_machine.specs.Openings.{opening_group}
 use Rattle.index_machine.specs.declared.opening.Opening.{Opening}
-use Rattle.word_layout.specs.declared.phase.Phase.TheVariants.{Open}
+use Rattle.word_layout.specs.declared.phase.Phase.TheVariants.{Open, Opened}
 use Rattle.machine_buffers.specs.Groups.{Answers}
 use Rattle.index_rule.specs.Built.{AreBuilt}
 use Rattle.index_rule.proofs.BuiltLaws.{groups_as_opened}
 use Rattle.std.proofs.Common.{Bool, cond, eq-eqb}
 use Rattle.std.specs.Prelude.{◌==◌, ◌&&◌}
 use Rattle.index_machine.specs.RecordConditions.{IsLinkInto}
+use Rattle.index_machine.specs.Words.{Store, store_of, stored, word}
+use Rattle.index_machine.specs.Forms.{Unlocked, state_word}
+use Rattle.index_machine.specs.Places.{first_version}
+use Rattle.index_machine.proofs.Placing.{KeepsRoles}
+use Rattle.map_model.specs.declared.entries.Change.TheVariants.{Put}
+use Rattle.word_layout.specs.declared.places.Part.{Part}
+use Rattle.word_layout.specs.declared.places.Part.TheVariants as part
+use Rattle.word_layout.specs.Words.{PlaceWord}
+use Rattle.std.proofs.Common.{Option, None}
 use Rattle.index_machine.specs.Represents.{has_stale_phase}
 use Rattle.index_machine.specs.Rows.{InBuffer, role, role_key}
-use Rattle.index_machine.specs.Sections.{IsCaller, IsNoCrossing}
+use Rattle.index_machine.specs.Sections.{IsCaller, IsNoCrossing, StaysInside}
 use Rattle.index_machine.proofs.Executions.{choice-same, own_step}
+use Rattle.machine_buffers.proofs.Inserting.{link_behind_opened, link_open}
 use Rattle.machine_buffers.proofs.Leave.{leave_while}
+use Rattle.machine_readers.specs.Readers.{ArrayHasNone, BufferHasNone}
+use Rattle.machine_readers.specs.Redirects.{IsBehind}
+use Rattle.index_rule.specs.Buffers.{BelongsWhileAbsent, IsFilled, inserted_by, key_in}
 use Rattle.machine_buffers.proofs.Phases.{true_while}
 use Rattle.machine_buffers.proofs.Walks.{decide, of_keys, stay_before, true_of_keys, walkable_while}
 use Rattle.machine_buffers.specs.Walks.{Decides, IsLinkBefore, IsWalkable}
-use Rattle.machine_readers.proofs.ReadSections.{place_on}
+use Rattle.machine_readers.proofs.ReadSections.{place_on, saw_open_on}
 use Rattle.index_rule.specs.declared.board.Board.{Board}
 use Rattle.index_rule.specs.declared.hand.Hand.{Hand}
 use Rattle.index_rule.specs.Hands.{IsHandOf, Makes, known, opening_of}
 use Rattle.index_rule.proofs.RecordStepping.{goes_on_inside, moment, now, since, valid_moment}
 use Rattle.index_rule.proofs.Standing.{stays_inside}
-use Rattle.index_rule.proofs.Stepping.{known_is, others_only, valid_after}
+use Rattle.index_rule.proofs.Stepping.{held_word_is, known_is, others_only, still_holds, valid_after}
 
 module _ (b : Board) (h k : Hand) (action : Action) (of : IsHandOf b h)
     (m : Makes b h action k) (caller : IsCaller (opening_of b) h.number) where
@@ -109,6 +123,57 @@ module _ (b : Board) (h k : Hand) (action : Action) (of : IsHandOf b h)
       now b h k action of m (λ z t. MayInsertInto z g t)
       (leave_while (opening_of b) h.number g caller (since b h k action of m) (known h)
       (valid_after b h k action of m) (goes_on_inside b h k action of m none) leave)
+
+-- ---- a row that the hand filled ----
+
+module _ (b : Board) (h k : Hand) (action : Action) (of : IsHandOf b h)
+    (m : Makes b h action k) (keeps : KeepsRoles action) where
+  -- a step that stores nothing leaves it filled, with its key and its value
+  pub still_filled : store_of h.number action ≡ None → (p next : ℕ) →
+      IsFilled (opening_of b) h.number p next (known h) →
+      IsFilled (opening_of b) k.number p next (known k)
+      × (inserted_by (opening_of b) h.number p (known k)
+      ≡ inserted_by (opening_of b) h.number p (known h))
+  still_filled none p next filled =
+      let o = opening_of b in
+      let same = λ (part : Part). held_word_is b h k action of m p part filled.held
+      ∙ ap (λ (s : Option Store). stored s (PlaceWord p part) (word o (known h) (PlaceWord p part)))
+      none in (
+        record {
+          held = still_holds b h k action of m keeps p filled.held;
+          new_word = same part.State ∙ (filled.new_word
+              ∙ ap (λ (x : ℕ). state_word (Unlocked (first_version o) false x)) (sym (same part.Value)));
+          link_word = same part.Link ∙ filled.link_word;
+        },
+        ap (λ (x : ℕ). Put h.number x (word o (known k) (PlaceWord p part.Value))) (same part.Key)
+            ∙ ap (λ (x : ℕ). Put h.number (key_in o p (known h)) x) (same part.Value),
+      )
+
+-- a store of its link leaves it filled, and leads there
+pub link_stored : (b : Board) (h k : Hand) (p old next : ℕ) → IsHandOf b h →
+    Makes b h (StorePrivate p part.Link next) k →
+    IsFilled (opening_of b) h.number p old (known h) →
+    IsFilled (opening_of b) k.number p next (known k)
+    × (inserted_by (opening_of b) h.number p (known k)
+    ≡ inserted_by (opening_of b) h.number p (known h))
+link_stored b h k p old next of m filled =
+    let o = opening_of b in
+    let held = held_word_is b h k (StorePrivate p part.Link next) of m p in
+    let key : word o (known k) (PlaceWord p part.Key) ≡ word o (known h) (PlaceWord p part.Key) =
+    held part.Key filled.held ∙ (rw (eq-eqb p p refl) refl) in
+    let value : word o (known k) (PlaceWord p part.Value) ≡ word o (known h) (PlaceWord p part.Value) =
+    held part.Value filled.held ∙ (rw (eq-eqb p p refl) refl) in
+    let state : word o (known k) (PlaceWord p part.State) ≡ word o (known h) (PlaceWord p part.State) =
+    held part.State filled.held ∙ (rw (eq-eqb p p refl) refl) in (
+      record {
+        held = still_holds b h k (StorePrivate p part.Link next) of m tt p filled.held;
+        new_word = state ∙ (filled.new_word
+            ∙ ap (λ (x : ℕ). state_word (Unlocked (first_version o) false x)) (sym value));
+        link_word = held part.Link filled.held ∙ (rw (eq-eqb p p refl) refl);
+      },
+      ap (λ (x : ℕ). Put h.number x (word o (known k) (PlaceWord p part.Value))) key
+          ∙ ap (λ (x : ℕ). Put h.number (key_in o p (known h)) x) value,
+    )
 
 -- ---- loads ----
 
@@ -230,3 +295,24 @@ row_linked b h k g place d before next of m =
     ap (role (opening_of b) place) (known_is b h k (LinkRow g place d before next) of m)
     ∙ choice-same place place (InBuffer g (key_of d))
     (role (opening_of b) place (m.acts.0 ++ known h)) refl
+
+-- ---- where a caller may link ----
+
+-- in the group that it saw open, a key without a value in the array belongs while it has no row
+pub belongs_where_open : (o : Opening) (c g j : ℕ) → IsCaller o c → (newer t : Execution) →
+    StaysInside c newer → stands_in c g t ≡ true → group_of o j t ≡ g →
+    ArrayHasNone o (newer ++ t) g j → saw_open c g (newer ++ t) ≡ true →
+    BelongsWhileAbsent o c g j (newer ++ t)
+belongs_where_open o c g j caller newer t stay s own none seen later valid out gap =
+    link_open o c g j caller later newer t valid stay (stays_inside c later out) s own none
+    (saw_open_on c g later (newer ++ t) (stays_inside c later out) seen) gap
+
+-- and behind a group that it saw opened, in the buffer of the new one
+pub belongs_behind_opened : (o : Opening) (c old f new j : ℕ) → IsCaller o c → old ≢ new →
+    (t : Execution) → stands_in c old t ≡ true → phase old t ≡ Opened f →
+    saw_opened c f t ≡ true → rebuild new t ≡ Some f → IsBehind o t old f new j →
+    ArrayHasNone o t old j → BufferHasNone o t old j → BelongsWhileAbsent o c new j t
+belongs_behind_opened o c old f new j caller apart t s at saw made behind arrays buffer later valid
+    out gap =
+    link_behind_opened o c old f new j caller apart later t valid (stays_inside c later out) s at
+    saw made behind arrays buffer gap

@@ -1,6 +1,6 @@
 -- A step that writes a look keeps the rule, and makes no event.
-use Rattle.std.proofs.Common.{◌≡◌, ℕ, ◌≤◌, Option, Some, [], ◌∷◌, ◌++◌, length}
-use Rattle.std.proofs.Common.{length-append, arith, refl, sym, ap, ◌∙◌, subst}
+use Rattle.std.proofs.Common.{◌≡◌, ℕ, ◌≤◌, Option, Some, length}
+use Rattle.std.proofs.Common.{arith, refl, sym, ap, ◌∙◌, subst}
 use Rattle.std.proofs.lemmas.Grind.{merely}
 use Rattle.std.proofs.Math.Logic.{∥∥₁_elim}
 use Rattle.std.proofs.Props.{props}
@@ -11,19 +11,17 @@ use Rattle.map_model.specs.declared.entries.Entry.TheVariants.{Look}
 use Rattle.map_model.specs.Answer.{pair_at}
 use Rattle.map_model.specs.Logs.{IsLogOf, StandsIn, least_place}
 use Rattle.map_model.proofs.Logging.{end_in_history, looks_end, look-stands}
-use Rattle.index_machine.specs.declared.events.Action.{Action}
-use Rattle.index_machine.specs.declared.events.Action.TheVariants.{Unlock, LinkRow}
 use Rattle.index_machine.specs.declared.opening.Opening.{Opening}
 use Rattle.index_machine.specs.Execution.{Execution, Continues}
 use Rattle.index_machine.specs.Openings.{opening_map}
-use Rattle.index_machine.specs.LivePlaces.{history, history_after, value_in_map}
+use Rattle.index_machine.specs.LivePlaces.{history, value_in_map}
 use Rattle.index_rule.specs.declared.board.Board.{Board}
 use Rattle.index_rule.specs.declared.hand.Hand.{Hand}
 use Rattle.index_rule.specs.declared.view.View.{View}
 use Rattle.index_rule.specs.Rule.{Follows, HasLog, Kept, Knows, number}
 use Rattle.index_rule.specs.Rule.{first_of}
 use Rattle.index_rule.specs.Hands.{IsHandOf, known, opening_of, view}
-use Rattle.index_rule.specs.Moments.{IsBetween, IsWithin, MomentsLieWithin}
+use Rattle.index_rule.specs.Moments.{IsBetween, IsWithin}
 use Rattle.index_rule.specs.Looks.{MayNote, Notes, with_look}
 use Rattle.index_rule.proofs.Moments.{history_on, moments_within}
 use Rattle.index_rule.proofs.Steps.{follows_of, is_some, kept_with, one_opening}
