@@ -6,7 +6,9 @@
 
 mod answers;
 mod finding;
+mod inserting;
 mod walking;
 
 pub use answers::Found;
 pub use finding::find;
+pub use inserting::insert;
