@@ -47,7 +47,7 @@ pub names_own : (p : ℕ) → p ≢ 0 → names_place p p ≡ true
 names_own zero some = absurd (some refl)
 names_own (suc n) some = eq-eqb (suc n) (suc n) refl
 
-buffer_key : {g i j : ℕ} → InBuffer g i ≡ InBuffer g j → i ≡ j
+pub buffer_key : {g i j : ℕ} → InBuffer g i ≡ InBuffer g j → i ≡ j
 buffer_key e = cc
 
 -- the row behind another one has a greater key

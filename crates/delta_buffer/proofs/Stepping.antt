@@ -1,6 +1,7 @@
 -- What a caller knows on its walk, after each load.
-use Rattle.std.proofs.Common.{◌≡◌, ◌≢◌, ◌⊎◌, ℕ, ◌<◌, inl, inr, ⊎_elim, true, false, Bool, cond, Some, []}
+use Rattle.std.proofs.Common.{Some, None, ◌≤◌, ◌≡◌, ◌≢◌, ◌⊎◌, ℕ, ◌<◌, inl, inr, ⊎_elim, true, false, Bool, cond, Some, []}
 use Rattle.std.proofs.Common.{◌∷◌, ◌++◌, refl, sym, ap, ◌∙◌, subst, arith}
+use Rattle.map_model.specs.Map.{look}
 use Rattle.index_machine.specs.declared.events.Action.{Action}
 use Rattle.index_machine.specs.declared.events.Action.TheVariants.{LoadHead, LoadKey, LoadLink}
 use Rattle.index_machine.specs.declared.opening.Opening.{Opening}
@@ -16,8 +17,10 @@ use Rattle.index_machine.proofs.Holders.{TakesLock}
 use Rattle.machine_buffers.specs.Walks.{Decides, IsLinkBefore, IsWalkable}
 use Rattle.machine_buffers.proofs.Walks.{decide, stay_before, walkable_while}
 use Rattle.machine_places.proofs.Forms.{some_is}
+use Rattle.machine_readers.specs.Buffers.{rows}
 use Rattle.index_rule.specs.declared.board.Board.{Board}
 use Rattle.index_rule.specs.declared.hand.Hand.{Hand}
+use Rattle.index_rule.specs.Buffers.{IsBehindKey}
 use Rattle.index_rule.specs.Hands.{IsHandOf, Makes, known, opening_of}
 use Rattle.index_rule.specs.Moments.{AddsNoEntry}
 use Rattle.index_rule.proofs.Calls.{HasBegun, begins, begun_on, goes_on, is_within}
@@ -25,9 +28,9 @@ use Rattle.index_rule.proofs.RecordReading.{KeepsLog, no_entry}
 use Rattle.index_rule.proofs.RecordStepping.{goes_on_inside, now, same_role, since, still_inside}
 use Rattle.index_rule.proofs.RecordStepping.{still_at, still_reached, still_stands}
 use Rattle.index_rule.proofs.Stepping.{known_is, still_holds_no_lock, valid_after, valid_known}
-use Rattle.delta_buffer.specs.Searching.{CanSearch, FindsGap, IsReachedRow}
+use Rattle.delta_buffer.specs.Searching.{CanSearch, FindsFirst, FindsGap, IsReachedRow}
 use Rattle.delta_buffer.specs.Walks.{FollowsLink, IsWalkOf, Walks}
-use Rattle.delta_buffer.proofs.Links.{left_none, left_some, link_of_head, link_of_row, names_own}
+use Rattle.delta_buffer.proofs.Links.{buffer_key, left_none, left_some, link_of_head, link_of_row, names_own}
 use Rattle.delta_buffer.proofs.Links.{rise_left, rises, row_some}
 
 -- ---- the loads of a walk ----
@@ -206,6 +209,31 @@ sets_out b g key next h k can follows =
     arrives b g key 0 next h h k can refl refl ([], tt, refl) (λ d m. begins b h k d can.of m)
     (inl refl) follows
 
+-- ---- what the link says ----
+
+-- a link before a key stands before each greater one
+before_more : (o : Opening) (g key j p : ℕ) (t : Execution) → key ≤ j → IsLinkBefore o g key p t →
+    IsLinkBefore o g j p t
+before_more o g key j p t le behind =
+    ⊎_elim (λ (z : p ≡ 0). inl z)
+    (λ (z : (i : ℕ) × (role o p t ≡ InBuffer g i) × (i < key)).
+    let lt = z.2 in inr (z.0, z.1, omega arith)) behind
+
+-- so none of these has a row that comes before the one to which it leads
+empty_from : (b : Board) (g key before next : ℕ) (h m : Hand) → IsOn b g key before next h m →
+    (j : ℕ) → key ≤ j → IsBehindKey (opening_of b) g j next (known m) →
+    look (rows g (known m)) j ≡ None
+empty_from b g key before next h m on j le ahead =
+    let o = opening_of b in
+    let says : Decides o g j next (known m) =
+    subst (λ (z : ℕ). Decides o g j z (known m)) on.leads
+    (decide o (known m) on.valid g j before on.search.walkable
+    (before_more o g key j before (known m) le on.behind))
+    in
+    ⊎_elim (λ (z : next ≡ 0). says.none z)
+    (λ (z : (i : ℕ) × (role o next (known m) ≡ InBuffer g i) × (j < i)).
+    says.greater z.0 z.1 z.2) ahead
+
 -- ---- a key ----
 
 -- the caller is at the row to which a link led
@@ -265,17 +293,19 @@ module _ (b : Board) (g key before next met : ℕ) (h m n : Hand)
   -- a greater key
   pub found_gap : key < met → FindsGap b g key before next h n
   found_gap lt =
-      let o = opening_of b in
-      let says : Decides o g key next (known m) =
-      subst (λ (z : ℕ). Decides o g key z (known m)) on.leads
-      (decide o (known m) on.valid g key before on.search.walkable on.behind)
-      in
       record {
         moment = known m;
         within = is_within h n (known m) on.begun
             (goes_on b m n (LoadKey next met) on.search.of l);
-        absent = says.greater met is_of lt;
+        absent = empty_from b g key before next h m on key (omega arith) (inr (met, is_of, lt));
         leads = on.leads;
+        empty = record {
+          row = λ first there i le less.
+              let same : first ≡ met = buffer_key (sym there ∙ is_still_of) in
+              empty_from b g key before next h m on i le (inr (met, is_of, omega arith));
+          end = λ none. absurd (some none);
+        };
+        ahead = λ _. is_reached.1;
         belonged = (on.behind, inr (met, is_of, lt));
         belongs = (
           before_after b g key before m n (LoadKey next met) tt l on.search on.behind,
@@ -341,16 +371,30 @@ left_falls b g key before next met next2 h m n k on some l lt follows =
 pub found_end : (b : Board) (g key before next : ℕ) (h m : Hand) →
     IsOn b g key before next h m → next ≡ 0 → FindsGap b g key before next h m
 found_end b g key before next h m on none =
-    let o = opening_of b in
-    let says : Decides o g key next (known m) =
-    subst (λ (z : ℕ). Decides o g key z (known m)) on.leads
-    (decide o (known m) on.valid g key before on.search.walkable on.behind)
-    in
     record {
       moment = known m;
       within = is_within h m (known m) on.begun (continues_same (known m));
-      absent = says.none none;
+      absent = empty_from b g key before next h m on key (omega arith) (inl none);
       leads = on.leads;
+      empty = record {
+        row = λ first there i le less.
+            empty_from b g key before next h m on i le (inr (first, there, less));
+        end = λ _ i le. empty_from b g key before next h m on i le (inl none);
+      };
+      ahead = λ some. absurd (some none);
       belonged = (on.behind, inl none);
       belongs = (on.behind, inl none);
     }
+
+-- the row behind a gap is the first one from the key on
+pub first_behind : (b : Board) (g key before next : ℕ) (h k : Hand) →
+    FindsGap b g key before next h k → next ≢ 0 → FindsFirst b g key h (Some next) k
+first_behind b g key before next h k gap some =
+    let o = opening_of b in
+    ⊎_elim (λ (z : next ≡ 0). absurd (some z))
+    (λ (z : (j : ℕ) × (role o next (known k) ≡ InBuffer g j) × (key < j)). (
+      z.0,
+      (z.1, gap.ahead some),
+      inr (z.2, (gap.moment, gap.within, gap.empty.row z.0 z.1)),
+    ))
+    gap.belongs.1

@@ -10,5 +10,5 @@ mod inserting;
 mod walking;
 
 pub use answers::Found;
-pub use finding::find;
+pub use finding::{find, first_from};
 pub use inserting::insert;
