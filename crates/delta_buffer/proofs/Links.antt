@@ -1,0 +1,86 @@
+-- What links say that were loaded, and how keys rise along them.
+use Rattle.std.proofs.Common.{◌≡◌, ◌≢◌, ℕ, zero, suc, ◌+◌, ◌-◌, ◌<◌, ◌^◌, inl, ⊎_elim}
+use Rattle.std.proofs.Common.{true, refl, sym, ap, ◌∙◌, subst, arith, eq-eqb}
+use Rattle.word_layout.specs.declared.headers.HeaderWord.TheVariants as header
+use Rattle.word_layout.specs.declared.places.Part.TheVariants as part
+use Rattle.word_layout.specs.Words.{Header, PlaceWord}
+use Rattle.word_layout.proofs.RowPlaces.{row-nonzero}
+use Rattle.index_machine.specs.declared.opening.Opening.{Opening}
+use Rattle.index_machine.specs.Conditions.{Valid}
+use Rattle.index_machine.specs.Execution.{Execution}
+use Rattle.index_machine.specs.Reaching.{names_place}
+use Rattle.index_machine.specs.RecordConditions.{IsLinkInto}
+use Rattle.index_machine.specs.Rows.{InBuffer, Role, role, role_key}
+use Rattle.index_machine.specs.Words.{limits, link_behind, word}
+use Rattle.index_machine.proofs.Placing.{buffer_row}
+use Rattle.machine_buffers.specs.NextRows.{row_from}
+use Rattle.machine_buffers.specs.Walks.{IsWalkable}
+use Rattle.machine_buffers.proofs.NextRows.{EndsBelow, IsFirstFrom, first_or_none}
+use Rattle.machine_buffers.proofs.Walks.{next_rows, rise}
+use Rattle.machine_readers.specs.Buffers.{rows}
+use Rattle.index_rule.specs.Records.{key_at, or_zero}
+use Rattle.index_rule.proofs.RecordSteps.{place_below}
+
+-- a row of a buffer is not place 0
+pub row_some : (o : Opening) (t : Execution) (g p k : ℕ) → Valid o t →
+    role o p t ≡ InBuffer g k → p ≢ 0
+row_some o t g p k valid e = row-nonzero (limits o) p (buffer_row o t valid p g k e)
+
+-- a link into a buffer is a small number
+pub link_below : (o : Opening) (t : Execution) (g p : ℕ) → Valid o t → IsLinkInto o g p t →
+    p < 2 ^ 28
+link_below o t g p valid into =
+    ⊎_elim (λ (z : p ≡ 0). omega arith)
+    (λ (z : (k : ℕ) × (role o p t ≡ InBuffer g k)).
+    place_below o p (inl (buffer_row o t valid p g z.0 z.1))) into
+
+-- the word of the link behind a row
+pub link_of_row : (g p : ℕ) → p ≢ 0 → link_behind g p ≡ PlaceWord p part.Link
+link_of_row g zero some = absurd (some refl)
+link_of_row g (suc n) some = refl
+
+pub link_of_head : (g p : ℕ) → p ≡ 0 → link_behind g p ≡ Header g header.BufferHead
+link_of_head g p e = ap (link_behind g) e
+
+-- a link names the place to which it leads
+pub names_own : (p : ℕ) → p ≢ 0 → names_place p p ≡ true
+names_own zero some = absurd (some refl)
+names_own (suc n) some = eq-eqb (suc n) (suc n) refl
+
+pub buffer_key : {g i j : ℕ} → InBuffer g i ≡ InBuffer g j → i ≡ j
+buffer_key e = cc
+
+-- the row behind another one has a greater key
+pub rises : (o : Opening) (t : Execution) (g p q i j : ℕ) → Valid o t → IsWalkable o g t →
+    role o p t ≡ InBuffer g i → word o t (PlaceWord p part.Link) ≡ q →
+    role o q t ≡ InBuffer g j → i < j
+rises o t g p q i j valid w here leads there =
+    let from : q ≡ row_from (i + 1) (rows g t) = sym leads ∙ next_rows o t valid g i p here in
+    ⊎_elim
+    (λ (z : EndsBelow (rows g t) (i + 1) × (row_from (i + 1) (rows g t) ≡ 0)).
+    absurd (row_some o t g q j valid there (from ∙ z.1)))
+    (λ (f : IsFirstFrom (rows g t) (i + 1) (row_from (i + 1) (rows g t))).
+    let stands : role o q t ≡ InBuffer g f.0 =
+    subst (λ (y : ℕ). role o y t ≡ InBuffer g f.0) (sym from)
+    (w.standing f.0 (row_from (i + 1) (rows g t)) f.1) in
+    let same : j ≡ f.0 = buffer_key (sym there ∙ stands) in
+    let le = f.2 in omega arith)
+    (first_or_none (rows g t) (i + 1) (rise o t valid g))
+
+-- ---- a walk ends ----
+
+-- how far the keys still can rise up to this one
+pub rise_left : Opening → ℕ → ℕ → Execution → ℕ
+rise_left o key zero t = 0
+rise_left o key (suc n) t = key + 1 - key_at o (suc n) t
+
+pub left_none : (o : Opening) (key p : ℕ) (t : Execution) → p ≡ 0 → rise_left o key p t ≡ 0
+unfolding rise_left
+left_none o key zero t e = refl
+left_none o key (suc p) t e = absurd (omega (arith, e))
+
+pub left_some : (o : Opening) (key p j g : ℕ) (t : Execution) → p ≢ 0 →
+    role o p t ≡ InBuffer g j → rise_left o key p t ≡ key + 1 - j
+unfolding rise_left
+left_some o key zero j g t some e = absurd (some refl)
+left_some o key (suc p) j g t some e = ap (λ (z : Role). key + 1 - or_zero (role_key z)) e

@@ -1,0 +1,400 @@
+-- What a caller knows on its walk, after each load.
+use Rattle.std.proofs.Common.{Some, None, ◌≤◌, ◌≡◌, ◌≢◌, ◌⊎◌, ℕ, ◌<◌, inl, inr, ⊎_elim, true, false, Bool, cond, Some, []}
+use Rattle.std.proofs.Common.{◌∷◌, ◌++◌, refl, sym, ap, ◌∙◌, subst, arith}
+use Rattle.map_model.specs.Map.{look}
+use Rattle.index_machine.specs.declared.events.Action.{Action}
+use Rattle.index_machine.specs.declared.events.Action.TheVariants.{LoadHead, LoadKey, LoadLink}
+use Rattle.index_machine.specs.declared.opening.Opening.{Opening}
+use Rattle.index_machine.specs.Conditions.{Valid}
+use Rattle.index_machine.specs.Execution.{Execution}
+use Rattle.index_machine.specs.Reaching.{reached, reached_after}
+use Rattle.index_machine.specs.RecordConditions.{IsAt, IsLinkInto}
+use Rattle.index_machine.specs.Rows.{InBuffer, role, role_key}
+use Rattle.index_machine.specs.Sections.{IsNoCrossing}
+use Rattle.index_machine.specs.Words.{link_behind, word}
+use Rattle.index_machine.proofs.Executions.{continues_same, own_step}
+use Rattle.index_machine.proofs.Holders.{TakesLock}
+use Rattle.machine_buffers.specs.Walks.{Decides, IsLinkBefore, IsWalkable}
+use Rattle.machine_buffers.proofs.Walks.{decide, stay_before, walkable_while}
+use Rattle.machine_places.proofs.Forms.{some_is}
+use Rattle.machine_readers.specs.Buffers.{rows}
+use Rattle.index_rule.specs.declared.board.Board.{Board}
+use Rattle.index_rule.specs.declared.hand.Hand.{Hand}
+use Rattle.index_rule.specs.Buffers.{IsBehindKey}
+use Rattle.index_rule.specs.Hands.{IsHandOf, Makes, known, opening_of}
+use Rattle.index_rule.specs.Moments.{AddsNoEntry}
+use Rattle.index_rule.proofs.Calls.{HasBegun, begins, begun_on, goes_on, is_within}
+use Rattle.index_rule.proofs.RecordReading.{KeepsLog, no_entry}
+use Rattle.index_rule.proofs.RecordStepping.{goes_on_inside, now, same_role, since, still_inside}
+use Rattle.index_rule.proofs.RecordStepping.{still_at, still_reached, still_stands}
+use Rattle.index_rule.proofs.Stepping.{known_is, still_holds_no_lock, valid_after, valid_known}
+use Rattle.delta_buffer.specs.Searching.{CanSearch, FindsFirst, FindsGap, IsReachedRow}
+use Rattle.delta_buffer.specs.Walks.{FollowsLink, IsWalkOf, Walks}
+use Rattle.delta_buffer.proofs.Links.{buffer_key, left_none, left_some, link_of_head, link_of_row, names_own}
+use Rattle.delta_buffer.proofs.Links.{rise_left, rises, row_some}
+
+-- ---- the loads of a walk ----
+
+no_crossing : (g : ℕ) (d : Action) → IsWalkOf g d → IsNoCrossing d
+no_crossing g (LoadHead h n) is = tt
+no_crossing g (LoadLink h p n) is = tt
+no_crossing g (LoadKey p n) is = tt
+no_crossing g d is = absurd is
+
+takes_none : (g : ℕ) (d : Action) → IsWalkOf g d → TakesLock d → ⊥
+takes_none g (LoadHead h n) is takes = takes
+takes_none g (LoadLink h p n) is takes = takes
+takes_none g (LoadKey p n) is takes = takes
+takes_none g d is takes = absurd is
+
+keeps_log : (g : ℕ) (d : Action) → IsWalkOf g d → KeepsLog d
+keeps_log g (LoadHead h n) is o t log = refl
+keeps_log g (LoadLink h p n) is o t log = refl
+keeps_log g (LoadKey p n) is o t log = refl
+keeps_log g d is o t log = absurd is
+
+-- the caller can go on after a step by which it does not leave and takes no lock
+pub search_after : (b : Board) (g : ℕ) (h k : Hand) (d : Action) → IsNoCrossing d →
+    (TakesLock d → ⊥) → Makes b h d k → CanSearch b g h → CanSearch b g k
+search_after b g h k d none free m can =
+    record {
+      of = m.of;
+      reading = still_inside b h k d can.of m none can.reading;
+      stands = still_stands b h k d can.of m none g can.stands;
+      walkable = now b h k d can.of m (λ z t. IsWalkable (opening_of b) g t)
+          (walkable_while (opening_of b) h.number g can.reading.caller (since b h k d can.of m)
+          (known h) (valid_after b h k d can.of m) (goes_on_inside b h k d can.of m none)
+          can.stands can.walkable);
+      in_table = can.in_table;
+      holds_none = still_holds_no_lock b h k d can.of m free can.holds_none;
+    }
+
+-- so a link before a key stays one
+pub before_after : (b : Board) (g key p : ℕ) (h k : Hand) (d : Action) → IsNoCrossing d →
+    Makes b h d k → CanSearch b g h → IsLinkBefore (opening_of b) g key p (known h) →
+    IsLinkBefore (opening_of b) g key p (known k)
+before_after b g key p h k d none m can before =
+    now b h k d can.of m (λ z t. IsLinkBefore (opening_of b) g key p t)
+    (stay_before (opening_of b) h.number g key p can.reading.caller (since b h k d can.of m)
+    (known h) (valid_after b h k d can.of m) (goes_on_inside b h k d can.of m none) can.stands
+    before)
+
+module _ (b : Board) (g : ℕ) (h k : Hand) (d : Action) (is : IsWalkOf g d) (m : Makes b h d k) where
+  pub search_on : CanSearch b g h → CanSearch b g k
+  search_on can = search_after b g h k d (no_crossing g d is) (takes_none g d is) m can
+
+  pub walks_on : (first : Hand) → Walks b g first h → Walks b g first k
+  walks_on first w = (d ∷ w.0, (is, w.1), (h, w.2, m))
+
+  pub log_on : (first : Hand) → IsHandOf b h → AddsNoEntry first h → AddsNoEntry first k
+  log_on first of none = no_entry b h k d of m (keeps_log g d is) ∙ none
+
+-- ---- a link ----
+
+-- the link leads to no row, or to one of the buffer that the caller reached
+abbrev pub LeadsOn : Opening → ℕ → ℕ → ℕ → Execution → Type 0
+LeadsOn o hand g next t = (next ≡ 0) ⊎ ((j : ℕ) × IsReachedRow o hand g j next t)
+
+-- what a caller knows on its walk to a key, as it has loaded the link behind a place
+pub record IsOn (b : Board) (g key before next : ℕ) (h m : Hand) : Type 0 where
+  pub search : CanSearch b g m
+  pub number : m.number ≡ h.number
+  pub log : AddsNoEntry h m
+  pub walks : Walks b g h m
+  pub begun : HasBegun h (known m)
+  pub valid : Valid (opening_of b) (known m)
+  pub leads : word (opening_of b) (known m) (link_behind g before) ≡ next
+  pub behind : IsLinkBefore (opening_of b) g key before (known m)
+  pub ahead : LeadsOn (opening_of b) m.number g next (known m)
+
+module _ (b : Board) (g before next : ℕ) (i k : Hand) (can : CanSearch b g i) where
+  -- the head was loaded
+  module _ (m : Makes b i (LoadHead g next) k) where
+    pub head_leads : before ≡ 0 → word (opening_of b) (known k) (link_behind g before) ≡ next
+    head_leads e =
+        ap (λ (z : Execution). word (opening_of b) z (link_behind g before))
+        (known_is b i k (LoadHead g next) can.of m)
+        ∙ (ap (word (opening_of b) (m.acts.0 ++ known i)) (link_of_head g before e)
+        ∙ (valid_after b i k (LoadHead g next) can.of m).0.found_word)
+
+    pub head_ahead : LeadsOn (opening_of b) k.number g next (known k)
+    head_ahead =
+        let o = opening_of b in
+        let valid = valid_after b i k (LoadHead g next) can.of m in
+        ⊎_elim (λ (z : next ≡ 0). inl z)
+        (λ (z : (j : ℕ) × (role o next (m.acts.0 ++ known i) ≡ InBuffer g j)).
+        inr (
+          z.0,
+          (
+            ap (role o next) (known_is b i k (LoadHead g next) can.of m) ∙ z.1,
+            now b i k (LoadHead g next) can.of m (λ c t. reached c next t ≡ true)
+                (own_step (reached_after next) false i.number (LoadHead g next)
+                (m.acts.0 ++ known i)
+                ∙ ap (λ (x : Bool). cond x true (reached i.number next (m.acts.0 ++ known i)))
+                (names_own next (row_some o (m.acts.0 ++ known i) g next z.0 valid.1 z.1))),
+          ),
+        ))
+        (valid.0.says can.reading.caller)
+
+  -- the link of a row was
+  module _ (m : Makes b i (LoadLink g before next) k) where
+    pub row_leads : before ≢ 0 → word (opening_of b) (known k) (link_behind g before) ≡ next
+    row_leads some =
+        ap (λ (z : Execution). word (opening_of b) z (link_behind g before))
+        (known_is b i k (LoadLink g before next) can.of m)
+        ∙ (ap (word (opening_of b) (m.acts.0 ++ known i)) (link_of_row g before some)
+        ∙ (valid_after b i k (LoadLink g before next) can.of m).0.found_word)
+
+    pub row_is_some : before ≢ 0
+    row_is_some =
+        let valid = valid_after b i k (LoadLink g before next) can.of m in
+        let row = valid.0.row can.reading.caller in
+        row_some (opening_of b) (m.acts.0 ++ known i) g before row.0 valid.1 row.1
+
+    pub row_ahead : LeadsOn (opening_of b) k.number g next (known k)
+    row_ahead =
+        let o = opening_of b in
+        let valid = valid_after b i k (LoadLink g before next) can.of m in
+        ⊎_elim (λ (z : next ≡ 0). inl z)
+        (λ (z : (j : ℕ) × (role o next (m.acts.0 ++ known i) ≡ InBuffer g j)).
+        inr (
+          z.0,
+          (
+            ap (role o next) (known_is b i k (LoadLink g before next) can.of m) ∙ z.1,
+            now b i k (LoadLink g before next) can.of m (λ c t. reached c next t ≡ true)
+                (own_step (reached_after next) false i.number (LoadLink g before next)
+                (m.acts.0 ++ known i)
+                ∙ ap (λ (x : Bool). cond x true (reached i.number next (m.acts.0 ++ known i)))
+                (names_own next (row_some o (m.acts.0 ++ known i) g next z.0 valid.1 z.1))),
+          ),
+        ))
+        (valid.0.says can.reading.caller)
+
+-- a link was loaded on the walk to a key that it stands before
+pub arrives : (b : Board) (g key before next : ℕ) (h i k : Hand) → CanSearch b g i →
+    i.number ≡ h.number → AddsNoEntry h i → Walks b g h i →
+    ((d : Action) → Makes b i d k → HasBegun h (known k)) →
+    IsLinkBefore (opening_of b) g key before (known i) → FollowsLink b i g before next k →
+    IsOn b g key before next h k
+arrives b g key before next h i k can same log walks begun behind follows =
+    ⊎_elim
+    (λ (z : (before ≡ 0) × Makes b i (LoadHead g next) k). record {
+      search = search_on b g i k (LoadHead g next) refl z.1 can;
+      number = z.1.number ∙ same;
+      log = log_on b g i k (LoadHead g next) refl z.1 h can.of log;
+      walks = walks_on b g i k (LoadHead g next) refl z.1 h walks;
+      begun = begun (LoadHead g next) z.1;
+      valid = valid_known b i k (LoadHead g next) can.of z.1;
+      leads = head_leads b g before next i k can z.1 z.0;
+      behind = before_after b g key before i k (LoadHead g next) tt z.1 can behind;
+      ahead = head_ahead b g before next i k can z.1;
+    })
+    (λ (z : Makes b i (LoadLink g before next) k). record {
+      search = search_on b g i k (LoadLink g before next) refl z can;
+      number = z.number ∙ same;
+      log = log_on b g i k (LoadLink g before next) refl z h can.of log;
+      walks = walks_on b g i k (LoadLink g before next) refl z h walks;
+      begun = begun (LoadLink g before next) z;
+      valid = valid_known b i k (LoadLink g before next) can.of z;
+      leads = row_leads b g before next i k can z (row_is_some b g before next i k can z);
+      behind = before_after b g key before i k (LoadLink g before next) tt z can behind;
+      ahead = row_ahead b g before next i k can z;
+    })
+    follows
+
+-- the first one
+pub sets_out : (b : Board) (g key next : ℕ) (h k : Hand) → CanSearch b g h →
+    FollowsLink b h g 0 next k → IsOn b g key 0 next h k
+sets_out b g key next h k can follows =
+    arrives b g key 0 next h h k can refl refl ([], tt, refl) (λ d m. begins b h k d can.of m)
+    (inl refl) follows
+
+-- ---- what the link says ----
+
+-- a link before a key stands before each greater one
+before_more : (o : Opening) (g key j p : ℕ) (t : Execution) → key ≤ j → IsLinkBefore o g key p t →
+    IsLinkBefore o g j p t
+before_more o g key j p t le behind =
+    ⊎_elim (λ (z : p ≡ 0). inl z)
+    (λ (z : (i : ℕ) × (role o p t ≡ InBuffer g i) × (i < key)).
+    let lt = z.2 in inr (z.0, z.1, omega arith)) behind
+
+-- so none of these has a row that comes before the one to which it leads
+empty_from : (b : Board) (g key before next : ℕ) (h m : Hand) → IsOn b g key before next h m →
+    (j : ℕ) → key ≤ j → IsBehindKey (opening_of b) g j next (known m) →
+    look (rows g (known m)) j ≡ None
+empty_from b g key before next h m on j le ahead =
+    let o = opening_of b in
+    let says : Decides o g j next (known m) =
+    subst (λ (z : ℕ). Decides o g j z (known m)) on.leads
+    (decide o (known m) on.valid g j before on.search.walkable
+    (before_more o g key j before (known m) le on.behind))
+    in
+    ⊎_elim (λ (z : next ≡ 0). says.none z)
+    (λ (z : (i : ℕ) × (role o next (known m) ≡ InBuffer g i) × (j < i)).
+    says.greater z.0 z.1 z.2) ahead
+
+-- ---- a key ----
+
+-- the caller is at the row to which a link led
+pub is_at_link : (b : Board) (g key before next : ℕ) (h m : Hand) →
+    IsOn b g key before next h m → next ≢ 0 → IsAt (opening_of b) m.number next (known m)
+is_at_link b g key before next h m on some =
+    record {
+      reading = on.search.reading;
+      there = ⊎_elim (λ (z : next ≡ 0). absurd (some z))
+          (λ (z : (j : ℕ) × IsReachedRow (opening_of b) m.number g j next (known m)). inr z.1.1)
+          on.ahead;
+    }
+
+module _ (b : Board) (g key before next met : ℕ) (h m n : Hand)
+    (on : IsOn b g key before next h m) (some : next ≢ 0) (l : Makes b m (LoadKey next met) n) where
+  reached_row : (j : ℕ) × IsReachedRow (opening_of b) m.number g j next (known m)
+  reached_row =
+      ⊎_elim (λ (z : next ≡ 0). absurd (some z))
+      (λ (z : (j : ℕ) × IsReachedRow (opening_of b) m.number g j next (known m)). z) on.ahead
+
+  is_there : IsAt (opening_of b) m.number next (known m)
+  is_there = is_at_link b g key before next h m on some
+
+  same : role (opening_of b) next (known n) ≡ role (opening_of b) next (known m)
+  same = same_role b m n (LoadKey next met) on.search.of l tt next is_there
+
+  key_is : reached_row.0 ≡ met
+  key_is =
+      let told : role_key (role (opening_of b) next (known n)) ≡ Some met =
+      ap (λ (z : Execution). role_key (role (opening_of b) next z))
+      (known_is b m n (LoadKey next met) on.search.of l)
+      ∙ (valid_after b m n (LoadKey next met) on.search.of l).0.says
+      in
+      some_is (sym (ap role_key (same ∙ reached_row.1.0)) ∙ told)
+
+  -- which is that of the key that was loaded
+  pub is_of : role (opening_of b) next (known m) ≡ InBuffer g met
+  is_of = reached_row.1.0 ∙ ap (InBuffer g) key_is
+
+  pub is_still_of : role (opening_of b) next (known n) ≡ InBuffer g met
+  is_still_of = same ∙ is_of
+
+  pub is_reached : IsReachedRow (opening_of b) n.number g met next (known n)
+  is_reached = (
+    is_still_of,
+    still_reached b m n (LoadKey next met) on.search.of l tt next reached_row.1.1,
+  )
+
+  pub is_at : IsAt (opening_of b) n.number next (known n)
+  is_at = still_at b m n (LoadKey next met) on.search.of l tt next is_there
+
+  -- the row of the key
+  pub found_row : met ≡ key → IsReachedRow (opening_of b) n.number g key next (known n)
+  found_row e =
+      subst (λ (z : ℕ). IsReachedRow (opening_of b) n.number g z next (known n)) e is_reached
+
+  -- a greater key
+  pub found_gap : key < met → FindsGap b g key before next h n
+  found_gap lt =
+      record {
+        moment = known m;
+        within = is_within h n (known m) on.begun
+            (goes_on b m n (LoadKey next met) on.search.of l);
+        absent = empty_from b g key before next h m on key (omega arith) (inr (met, is_of, lt));
+        leads = on.leads;
+        empty = record {
+          row = λ first there i le less.
+              let same : first ≡ met = buffer_key (sym there ∙ is_still_of) in
+              empty_from b g key before next h m on i le (inr (met, is_of, omega arith));
+          end = λ none. absurd (some none);
+        };
+        ahead = λ _. is_reached.1;
+        belonged = (on.behind, inr (met, is_of, lt));
+        belongs = (
+          before_after b g key before m n (LoadKey next met) tt l on.search on.behind,
+          inr (met, is_still_of, lt),
+        );
+      }
+
+  -- a smaller one: the walk goes on
+  pub links_on : IsLinkInto (opening_of b) g next (known n)
+  links_on = inr (met, is_still_of)
+
+  pub goes_behind : (next2 : ℕ) (k : Hand) → met < key → FollowsLink b n g next next2 k →
+      IsOn b g key next next2 h k
+  goes_behind next2 k lt follows =
+      arrives b g key next next2 h n k
+      (search_on b g m n (LoadKey next met) tt l on.search)
+      (l.number ∙ on.number)
+      (log_on b g m n (LoadKey next met) tt l h on.search.of on.log)
+      (walks_on b g m n (LoadKey next met) tt l h on.walks)
+      (λ d q. begun_on h (known n) (known k)
+      (begun_on h (known m) (known n) on.begun (goes_on b m n (LoadKey next met) on.search.of l))
+      (goes_on b n k d l.of q))
+      (inr (met, is_still_of, lt)) follows
+
+-- ---- the walk ends ----
+
+-- the keys that are met rise
+pub left_falls : (b : Board) (g key before next met next2 : ℕ) (h m n k : Hand) →
+    IsOn b g key before next h m → next ≢ 0 → Makes b m (LoadKey next met) n → met < key →
+    FollowsLink b n g next next2 k →
+    rise_left (opening_of b) key next2 (known k) < rise_left (opening_of b) key next (known m)
+left_falls b g key before next met next2 h m n k on some l lt follows =
+    let o = opening_of b in
+    let on_k = goes_behind b g key before next met h m n on some l next2 k lt follows in
+    let here : role o next (known k) ≡ InBuffer g met =
+    row_after b g next met n k (is_at b g key before next met h m n on some l)
+    (search_on b g m n (LoadKey next met) tt l on.search).of follows
+    ∙ is_still_of b g key before next met h m n on some l in
+    let old = left_some o key next met g (known m) some
+    (is_of b g key before next met h m n on some l) in
+    ⊎_elim
+    (λ (z : next2 ≡ 0).
+    let new = left_none o key next2 (known k) z in omega arith)
+    (λ (z : (j : ℕ) × IsReachedRow o k.number g j next2 (known k)).
+    let more : met < z.0 = rises o (known k) g next next2 met z.0 on_k.valid on_k.search.walkable
+    here (ap (word o (known k)) (sym (link_of_row g next some)) ∙ on_k.leads) z.1.0 in
+    let new = left_some o key next2 z.0 g (known k)
+    (row_some o (known k) g next2 z.0 on_k.valid z.1.0) z.1.0 in
+    omega arith)
+    on_k.ahead
+  where
+    row_after : (b : Board) (g p j : ℕ) (n k : Hand) → IsAt (opening_of b) n.number p (known n) →
+        IsHandOf b n → FollowsLink b n g p next2 k →
+        role (opening_of b) p (known k) ≡ role (opening_of b) p (known n)
+    row_after b g p j n k at of follows =
+        ⊎_elim
+        (λ (z : (p ≡ 0) × Makes b n (LoadHead g next2) k).
+        same_role b n k (LoadHead g next2) of z.1 tt p at)
+        (λ (z : Makes b n (LoadLink g p next2) k).
+        same_role b n k (LoadLink g p next2) of z tt p at) follows
+
+-- the end of the buffer
+pub found_end : (b : Board) (g key before next : ℕ) (h m : Hand) →
+    IsOn b g key before next h m → next ≡ 0 → FindsGap b g key before next h m
+found_end b g key before next h m on none =
+    record {
+      moment = known m;
+      within = is_within h m (known m) on.begun (continues_same (known m));
+      absent = empty_from b g key before next h m on key (omega arith) (inl none);
+      leads = on.leads;
+      empty = record {
+        row = λ first there i le less.
+            empty_from b g key before next h m on i le (inr (first, there, less));
+        end = λ _ i le. empty_from b g key before next h m on i le (inl none);
+      };
+      ahead = λ some. absurd (some none);
+      belonged = (on.behind, inl none);
+      belongs = (on.behind, inl none);
+    }
+
+-- the row behind a gap is the first one from the key on
+pub first_behind : (b : Board) (g key before next : ℕ) (h k : Hand) →
+    FindsGap b g key before next h k → next ≢ 0 → FindsFirst b g key h (Some next) k
+first_behind b g key before next h k gap some =
+    let o = opening_of b in
+    ⊎_elim (λ (z : next ≡ 0). absurd (some z))
+    (λ (z : (j : ℕ) × (role o next (known k) ≡ InBuffer g j) × (key < j)). (
+      z.0,
+      (z.1, gap.ahead some),
+      inr (z.2, (gap.moment, gap.within, gap.empty.row z.0 z.1)),
+    ))
+    gap.belongs.1

@@ -1,0 +1,7 @@
+use Rattle.delta_buffer.proofs.Stepping.{first_behind}
+use Rattle.delta_buffer.proofs.finding.first_from.Goals as goal
+
+pub returns-in-Gap-clause-finds : goal.returns-in-Gap-clause-finds
+returns-in-Gap-clause-finds c =
+    first_behind c.args.board.now c.args.group c.args.key c.in-Gap.before c.in-Gap.next
+    c.args.hand.now c.find.new.hand c.in-Gap.ensures.finds c.in-Gap.next-test.1

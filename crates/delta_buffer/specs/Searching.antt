@@ -1,0 +1,83 @@
+-- What a search in a buffer needs, and what it finds.
+use Rattle.std.specs.Prelude.{◌≡◌, ◌≢◌, ◌⊎◌, ℕ, ◌<◌, ◌≤◌, true, Option, Some, None}
+use Rattle.map_model.specs.Map.{look}
+use Rattle.index_machine.specs.declared.opening.Opening.{Opening}
+use Rattle.index_machine.specs.Execution.{Execution}
+use Rattle.index_machine.specs.Words.{limits, link_behind, word}
+use Rattle.index_machine.specs.Sections.{IsReading}
+use Rattle.index_machine.specs.Rows.{InBuffer, role}
+use Rattle.index_machine.specs.Reaching.{reached, stands_in}
+use Rattle.index_machine.specs.RecordConditions.{HoldsNoLock}
+use Rattle.machine_readers.specs.Buffers.{rows}
+use Rattle.machine_buffers.specs.Walks.{IsLinkBefore, IsWalkable}
+use Rattle.index_rule.specs.declared.board.Board.{Board}
+use Rattle.index_rule.specs.declared.hand.Hand.{Hand}
+use Rattle.index_rule.specs.Buffers.{IsBehindKey}
+use Rattle.index_rule.specs.Hands.{IsHandOf, known, opening_of}
+use Rattle.index_rule.specs.Moments.{IsWithin}
+use Rattle.delta_buffer.specs.declared.answers.Found.{Found}
+use Rattle.delta_buffer.specs.declared.answers.Found.TheVariants as found
+
+-- the caller stands in the group, a walk meets all rows of its buffer, and it holds no version lock
+pub record CanSearch (b : Board) (group : ℕ) (h : Hand) : Type 0 where
+  pub of : IsHandOf b h
+  pub reading : IsReading (opening_of b) h.number (known h)
+  pub stands : stands_in h.number group (known h) ≡ true
+  pub walkable : IsWalkable (opening_of b) group (known h)
+  pub in_table : group < (limits (opening_of b)).groups
+  pub holds_none : HoldsNoLock (opening_of b) h.number (known h)
+
+-- the place is the row of the key, and the caller came to it by a link
+abbrev pub IsReachedRow : Opening → ℕ → ℕ → ℕ → ℕ → Execution → Type 0
+IsReachedRow o hand group key place t =
+    (role o place t ≡ InBuffer group key) × (reached hand place t ≡ true)
+
+-- the key belongs between these two places: behind a smaller key or the head, and ahead of a greater
+-- one or of none
+abbrev pub BelongsBetween : Opening → ℕ → ℕ → ℕ → ℕ → Execution → Type 0
+BelongsBetween o group key before next t =
+    IsLinkBefore o group key before t × IsBehindKey o group key next t
+
+-- then no key from this one on had a row: up to below the one that the row `next` has later, or up to
+-- the end where this is 0
+pub record IsEmptyUpTo (o : Opening) (group key next : ℕ) (moment later : Execution)
+    : Type 0 where
+  pub row : (first : ℕ) → role o next later ≡ InBuffer group first →
+      (k : ℕ) → key ≤ k → k < first → look (rows group moment) k ≡ None
+  pub end : next ≡ 0 → (k : ℕ) → key ≤ k → look (rows group moment) k ≡ None
+
+-- at a moment of the call the link between these two places decided: the key had no row
+pub record FindsGap (b : Board) (group key before next : ℕ) (h k : Hand) : Type 0 where
+  pub moment : Execution
+  pub within : IsWithin h k moment
+  pub absent : look (rows group moment) key ≡ None
+  pub leads : word (opening_of b) moment (link_behind group before) ≡ next
+  pub empty : IsEmptyUpTo (opening_of b) group key next moment (known k)
+  pub ahead : next ≢ 0 → reached k.number next (known k) ≡ true
+  pub belonged : BelongsBetween (opening_of b) group key before next moment
+  pub belongs : BelongsBetween (opening_of b) group key before next (known k)
+
+-- what the answer tells of the key
+abbrev pub Finds : Board → ℕ → ℕ → Hand → Found → Hand → Type 0
+Finds b group key h (found.Row place) k =
+    IsReachedRow (opening_of b) k.number group key place (known k)
+Finds b group key h (found.Gap before next) k = FindsGap b group key before next h k
+
+-- at a moment of the call no key from this one up to below the other had a row
+abbrev pub FindsNoneUpTo : Board → ℕ → ℕ → ℕ → Hand → Hand → Type 0
+FindsNoneUpTo b group key first h k =
+    (moment : Execution) × IsWithin h k moment
+    × ((i : ℕ) → key ≤ i → i < first → look (rows group moment) i ≡ None)
+
+-- at a moment of the call no key from this one on had a row
+abbrev pub FindsNoneFrom : Board → ℕ → ℕ → Hand → Hand → Type 0
+FindsNoneFrom b group key h k =
+    (moment : Execution) × IsWithin h k moment
+    × ((i : ℕ) → key ≤ i → look (rows group moment) i ≡ None)
+
+-- the row is the first one from the key on, or there was none
+abbrev pub FindsFirst : Board → ℕ → ℕ → Hand → Option ℕ → Hand → Type 0
+FindsFirst b group key h (Some place) k =
+    (first : ℕ) × IsReachedRow (opening_of b) k.number group first place (known k)
+    × ((first ≡ key) ⊎ ((key < first) × FindsNoneUpTo b group key first h k))
+FindsFirst b group key h None k = FindsNoneFrom b group key h k

@@ -1,0 +1,14 @@
+//! The buffer of a group: a sorted list of rows, which callers walk and link new rows into.
+//!
+//! A walk meets the rows by rising keys. It ends at the key or behind the place where it belongs, so
+//! what the last link said of the key held when it was loaded.
+#![tactic(auto)]
+
+mod answers;
+mod finding;
+mod inserting;
+mod walking;
+
+pub use answers::Found;
+pub use finding::{find, first_from};
+pub use inserting::insert;
