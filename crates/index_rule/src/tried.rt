@@ -1,0 +1,28 @@
+//! What a call that is tried once answers, and why it did not come to its end.
+
+/// What a call came to.
+#[derive(Clone, Copy, Debug, PartialEq, Eq)]
+pub enum Tried<T> {
+    /// It took effect, and this is its answer.
+    Done(T),
+    /// Nothing was changed, and the call may be tried again.
+    Again(Why),
+    /// Nothing was changed: no row was free for a new key.
+    Full,
+    /// Nothing was changed: the record at this place has the last version, by this state word.
+    Worn { place: u32, word: u64 },
+}
+
+/// Why a call is to be tried again.
+#[derive(Clone, Copy, Debug, PartialEq, Eq)]
+pub enum Why {
+    /// The version lock was held, by this state word.
+    Locked { place: u32, word: u64 },
+    /// The state word at the place was the first of these, and then the second.
+    Changed { place: u32, first: u64, second: u64 },
+    /// The group takes no new keys, by this phase word.
+    Frozen { group: u32, word: u64 },
+    /// The word at this place, or behind it, was expected to be one and found to be another. 0 is the
+    /// head of the free stack.
+    Raced { place: u32, expected: u64, found: u64 },
+}

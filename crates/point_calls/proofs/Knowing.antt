@@ -1,0 +1,214 @@
+-- What a hand knows within a call, after each of its steps.
+use Rattle.std.proofs.Common.{◌≡◌, ◌≢◌, ℕ, Option, Some, None, [], ◌∷◌, ◌++◌, refl, sym, ap, ◌∙◌, subst}
+use Rattle.std.proofs.Common.{List}
+use Rattle.map_model.specs.declared.entries.Entry.{Entry}
+use Rattle.map_model.specs.declared.entries.Entry.TheVariants.{Look}
+use Rattle.map_model.specs.Answer.{pair_at}
+use Rattle.map_model.specs.Logs.{Log}
+use Rattle.std.specs.Prelude.{length}
+use Rattle.index_machine.specs.declared.events.Action.{Action}
+use Rattle.index_machine.specs.declared.events.Action.TheVariants.{LoadHead, LoadKey, LoadLink}
+use Rattle.index_machine.specs.Conditions.{Valid}
+use Rattle.index_machine.specs.Execution.{Continues, Execution, event}
+use Rattle.index_machine.specs.LivePlaces.{history}
+use Rattle.index_machine.specs.RecordConditions.{HoldsNoLock}
+use Rattle.index_machine.specs.Rows.{Holds, HoldsNone}
+use Rattle.index_machine.specs.Sections.{IsNoCrossing, IsReading}
+use Rattle.index_machine.proofs.Executions.{continues_trans, valid_before}
+use Rattle.index_machine.proofs.Holders.{TakesLock}
+use Rattle.index_machine.proofs.Placing.{KeepsRoles}
+use Rattle.index_rule.specs.declared.board.Board.{Board}
+use Rattle.index_rule.specs.declared.hand.Hand.{Hand}
+use Rattle.index_rule.specs.declared.rows.PrivateRow.{PrivateRow}
+use Rattle.index_rule.specs.declared.view.View.{View}
+use Rattle.index_rule.specs.Built.{AreBuilt}
+use Rattle.index_rule.specs.Hands.{IsHandOf, Makes, MakesAll, known, opening_of, view}
+use Rattle.index_rule.specs.Looks.{AddsLook}
+use Rattle.index_rule.specs.Moments.{AddsNoEntry, IsBetween, IsWithin}
+use Rattle.index_rule.specs.OwnRows.{place_of_private}
+use Rattle.index_rule.proofs.Calls.{HasBegun, begins, begun_on, from_there, goes_on, up_to}
+use Rattle.index_rule.proofs.Logging.{built_before}
+use Rattle.index_rule.proofs.RecordStepping.{still_inside}
+use Rattle.index_rule.proofs.Stepping.{built_known, known_is, still_holds, still_holds_no_lock}
+use Rattle.index_rule.proofs.Stepping.{still_holds_none, valid_known}
+use Rattle.delta_buffer.specs.Walks.{AreWalkOf, IsWalkOf}
+use Rattle.point_calls.specs.PointCalls.{CanCall, HasSpare, KeepsRows, LooksUp, MakesIn}
+
+-- ---- one step ----
+
+-- a step that takes no row and gives none leaves the spare one
+pub spare_on : (b : Board) (h k : Hand) (d : Action) → IsHandOf b h → Makes b h d k →
+    KeepsRoles d → (spare : Option PrivateRow) → HasSpare b h spare → HasSpare b k spare
+spare_on b h k d of m keeps (Some row) held = still_holds b h k d of m keeps (place_of_private row) held
+spare_on b h k d of m keeps None none = still_holds_none b h k d of m keeps none
+
+-- the hand can go on with its call
+pub call_on : (b : Board) (h k : Hand) (d : Action) → IsNoCrossing d → (TakesLock d → ⊥) →
+    Makes b h d k → CanCall b h → CanCall b k
+call_on b h k d none free m can =
+    record {
+      of = m.of;
+      reading = still_inside b h k d can.of m none can.reading;
+      holds_none = still_holds_no_lock b h k d can.of m free can.holds_none;
+    }
+
+-- the step is one of the call
+pub made : (b : Board) (h k : Hand) (d : Action) → IsHandOf b h → Makes b h d k → MakesIn h d k
+made b h k d of m =
+    (m.acts.0 ++ known h, up_to b h k d of m, ([], sym (known_is b h k d of m)))
+
+-- ---- several steps ----
+
+-- what a hand knows within a call that it began so
+pub record IsIn (b : Board) (start h : Hand) : Type 0 where
+  pub of : IsHandOf b h
+  pub number : h.number ≡ start.number
+  pub begun : HasBegun start (known h)
+  pub valid : Valid (opening_of b) (known h)
+  pub built : AreBuilt (known h)
+  pub since : Continues (known start) (known h)
+  pub rows : KeepsRows b start h
+
+-- behind its first step
+pub in_first : (b : Board) (h k : Hand) (d : Action) → KeepsRoles d → IsHandOf b h →
+    Makes b h d k → IsIn b h k
+in_first b h k d keeps of m =
+    record {
+      of = m.of;
+      number = m.number;
+      begun = begins b h k d of m;
+      valid = valid_known b h k d of m;
+      built = built_known b h k d of m;
+      since = goes_on b h k d of m;
+      rows = λ spare has. spare_on b h k d of m keeps spare has;
+    }
+
+-- and behind each further one
+pub in_step : (b : Board) (start h k : Hand) (d : Action) → KeepsRoles d → Makes b h d k →
+    IsIn b start h → IsIn b start k
+in_step b start h k d keeps m i =
+    record {
+      of = m.of;
+      number = m.number ∙ i.number;
+      begun = begun_on start (known h) (known k) i.begun (goes_on b h k d i.of m);
+      valid = valid_known b h k d i.of m;
+      built = built_known b h k d i.of m;
+      since = continues_trans (known start) (known h) (known k) i.since (goes_on b h k d i.of m);
+      rows = λ spare has. spare_on b h k d i.of m keeps spare (i.rows spare has);
+    }
+
+walk_keeps : (g : ℕ) (d : Action) → IsWalkOf g d → KeepsRoles d
+walk_keeps g (LoadHead h n) is = tt
+walk_keeps g (LoadLink h p n) is = tt
+walk_keeps g (LoadKey p n) is = tt
+walk_keeps g d is = absurd is
+
+-- behind a walk
+pub in_walk : (b : Board) (g : ℕ) (start h : Hand) (actions : List Action) (k : Hand) →
+    AreWalkOf g actions → MakesAll b h actions k → IsIn b start h → IsIn b start k
+in_walk b g start h [] k are all i = subst (IsIn b start) (sym all) i
+in_walk b g start h (d ∷ actions) k are all i =
+    in_step b start all.0 k d (walk_keeps g d are.0) all.2
+    (in_walk b g start h actions all.0 are.1 all.1 i)
+
+-- and what it walked over is behind what it knew
+pub walk_since : (b : Board) (g : ℕ) (start h : Hand) (actions : List Action) (k : Hand) →
+    AreWalkOf g actions → MakesAll b h actions k → IsIn b start h → Continues (known h) (known k)
+walk_since b g start h [] k are all i = ([], ap known (sym all))
+walk_since b g start h (d ∷ actions) k are all i =
+    continues_trans (known h) (known all.0) (known k)
+    (walk_since b g start h actions all.0 are.1 all.1 i)
+    (goes_on b all.0 k d (in_walk b g start h actions all.0 are.1 all.1 i).of all.2)
+
+-- a step that was made after the call began is one of the call
+pub made_in : (b : Board) (start h k : Hand) (d : Action) → IsIn b start h → Makes b h d k →
+    MakesIn start d k
+made_in b start h k d i m =
+    (
+      m.acts.0 ++ known h,
+      continues_trans (known start) (known h) (m.acts.0 ++ known h) i.since (up_to b h k d i.of m),
+      subst (λ (z : ℕ). Continues (event z d ∷ m.acts.0 ++ known h) (known k)) i.number
+          ([], sym (known_is b h k d i.of m)),
+    )
+
+-- and stays one
+pub made_on : (start h k : Hand) (d : Action) → MakesIn start d h → Continues (known h) (known k) →
+    MakesIn start d k
+made_on start h k d m on =
+    (m.0, m.1, continues_trans (event start.number d ∷ m.0) (known h) (known k) m.2 on)
+
+-- ---- moments ----
+
+-- a moment of the call stays one as the call goes on
+pub within_on : (start h k : Hand) (moment : Execution) → IsWithin start h moment →
+    Continues (known h) (known k) → IsWithin start k moment
+within_on start h k moment w on =
+    (
+      w.0,
+      w.1,
+      w.2,
+      continues_trans (event start.number w.0 ∷ w.1 ++ known start) (known h) (known k) w.3 on,
+      w.4,
+      continues_trans moment (known h) (known k) w.5 on,
+    )
+
+-- a moment of a later part of the call is one of the call
+pub within_whole : (b : Board) (start h k : Hand) (moment : Execution) → IsIn b start h →
+    IsWithin h k moment → IsWithin start k moment
+within_whole b start h k moment i w =
+    let here : Continues (known h) moment =
+    continues_trans (known h) (w.1 ++ known h) moment (w.1, refl) w.4 in
+    let begun : HasBegun start moment = begun_on start (known h) moment i.begun here in (
+      begun.0,
+      begun.1,
+      begun.2,
+      continues_trans (event start.number begun.0 ∷ begun.1 ++ known start) moment (known k)
+          begun.3 w.5,
+      continues_trans (begun.1 ++ known start)
+          (event start.number begun.0 ∷ begun.1 ++ known start) moment
+          (event start.number begun.0 ∷ [], refl) begun.3,
+      w.5,
+    )
+
+-- what is valid and built at the end is so at a moment
+pub valid_at : (b : Board) (moment t : Execution) → Continues moment t → Valid (opening_of b) t →
+    Valid (opening_of b) moment
+valid_at b moment t on valid =
+    valid_before (opening_of b) on.0 moment (subst (Valid (opening_of b)) (sym on.1) valid)
+
+pub built_at : (moment t : Execution) → Continues moment t → AreBuilt t → AreBuilt moment
+built_at moment t on built = built_before on.0 moment (subst AreBuilt (sym on.1) built)
+
+-- ---- the look that ends a call ----
+
+module _ (b : Board) (start h k : Hand) (key : ℕ) (found : Option ℕ)
+    (noted : AddsLook b start h key found k) (number : k.number ≡ h.number) where
+  known_same : known k ≡ known h
+  known_same = ap (λ (v : View). v.known) noted.3
+
+  stays : (P : ℕ → Execution → Type 0) → P h.number (known h) → P k.number (known k)
+  stays P p =
+      subst (λ (z : ℕ × Execution). P z.0 z.1) (λ i. (sym number i, sym known_same i)) p
+
+  pub call_noted : IsHandOf b k → CanCall b h → CanCall b k
+  call_noted of can =
+      record {
+        of = of;
+        reading = stays (IsReading (opening_of b)) can.reading;
+        holds_none = stays (HoldsNoLock (opening_of b)) can.holds_none;
+      }
+
+  pub spare_noted : (spare : Option PrivateRow) → HasSpare b h spare → HasSpare b k spare
+  spare_noted (Some row) held =
+      stays (λ z t. Holds (opening_of b) z (place_of_private row) t) held
+  spare_noted None none = stays (HoldsNone (opening_of b)) none
+
+  pub looked_up : AddsNoEntry start h → LooksUp b key start found k
+  looked_up none = (
+    noted.0,
+    subst (λ (t : Execution). IsBetween start.number (known start) t noted.0) (sym known_same)
+        noted.1,
+    noted.2,
+    ap (λ (v : View). v.log) noted.3
+        ∙ ap (λ (l : Log). Look (length (history noted.0)) key key (pair_at key found) ∷ l) none,
+  )

@@ -1,0 +1,83 @@
+-- What a call on one key needs, the entry that it adds, and what it does where it comes to no end.
+use Rattle.std.specs.Prelude.{◌≡◌, ◌≢◌, ◌⊎◌, ℕ, ◌≤◌, Option, Some, None, [], ◌∷◌, length}
+use Rattle.map_model.specs.declared.entries.Entry.TheVariants.{Look}
+use Rattle.map_model.specs.Answer.{pair_at}
+use Rattle.index_machine.specs.declared.events.Action.{Action}
+use Rattle.index_machine.specs.declared.events.Action.TheVariants.{LoadState}
+use Rattle.index_machine.specs.Execution.{Execution, event, Continues}
+use Rattle.index_machine.specs.LivePlaces.{history, value_in_map}
+use Rattle.index_machine.specs.Places.{form}
+use Rattle.index_machine.specs.RecordConditions.{HoldsNoLock}
+use Rattle.index_machine.specs.Rows.{Holds, HoldsNone, role, role_key}
+use Rattle.index_machine.specs.Sections.{IsReading}
+use Rattle.index_rule.specs.declared.board.Board.{Board}
+use Rattle.index_rule.specs.declared.hand.Hand.{Hand}
+use Rattle.index_rule.specs.declared.rows.PrivateRow.{PrivateRow}
+use Rattle.index_rule.specs.declared.tried.Why.{Why}
+use Rattle.index_rule.specs.declared.tried.Why.TheVariants as why
+use Rattle.index_rule.specs.Hands.{IsHandOf, known, opening_of, view}
+use Rattle.index_rule.specs.Moments.{IsWithin}
+use Rattle.index_rule.specs.OwnRows.{place_of_private}
+use Rattle.record_cell.specs.Conditions.{IsLockedState}
+use Rattle.record_cell.specs.Reads.{IsHeldByAnother}
+
+-- ---- what a call needs ----
+
+-- the index was opened with no rows, so no array has a place for any key
+abbrev pub OpensEmpty : Board → Type 0
+OpensEmpty b = (opening_of b).rows ≡ []
+
+-- the hand is of the board, inside its read section, and holds no version lock
+pub record CanCall (b : Board) (h : Hand) : Type 0 where
+  pub of : IsHandOf b h
+  pub reading : IsReading (opening_of b) h.number (known h)
+  pub holds_none : HoldsNoLock (opening_of b) h.number (known h)
+
+-- the spare row is the one that the hand holds; without one it holds none
+abbrev pub HasSpare : Board → Hand → Option PrivateRow → Type 0
+HasSpare b h (Some row) = Holds (opening_of b) h.number (place_of_private row) (known h)
+HasSpare b h None = HoldsNone (opening_of b) h.number (known h)
+
+-- the call took no row and gave none
+abbrev pub KeepsRows : Board → Hand → Hand → Type 0
+KeepsRows b h k = (spare : Option PrivateRow) → HasSpare b h spare → HasSpare b k spare
+
+-- ---- its steps ----
+
+-- the hand made this step in the call
+abbrev pub MakesIn : Hand → Action → Hand → Type 0
+MakesIn h action k =
+    (earlier : Execution) × Continues (known h) earlier
+    × Continues (event h.number action ∷ earlier) (known k)
+
+-- ---- its entry ----
+
+-- the call added one entry, a look at a moment of it at which the key had this value, or none
+abbrev pub LooksUp : Board → ℕ → Hand → Option ℕ → Hand → Type 0
+LooksUp b key h found k =
+    (moment : Execution) × IsWithin h k moment
+    × (value_in_map (opening_of b) key moment ≡ found)
+    × ((view k).log ≡ Look (length (history moment)) key key (pair_at key found) ∷ (view h).log)
+
+-- ---- why it is to be tried again ----
+
+-- the place is one of the key's
+abbrev pub IsOfKey : Board → ℕ → ℕ → Hand → Type 0
+IsOfKey b key place k = role_key (role (opening_of b) place (known k)) ≡ Some key
+
+-- the call loaded this state word at a place of the key, whose version lock another hand held
+pub record MeetsLock (b : Board) (key : ℕ) (h : Hand) (place word : ℕ) (k : Hand) : Type 0 where
+  pub loaded : MakesIn h (LoadState place word) k
+  pub locked : IsLockedState word
+  pub of_key : IsOfKey b key place k
+  pub moment : Execution
+  pub within : IsWithin h k moment
+  pub by_another : IsHeldByAnother h.number (form (opening_of b) place moment)
+
+-- two loads of the state word, at a place of the key, found these two words, which differ
+pub record MeetsChange (b : Board) (key : ℕ) (h : Hand) (place first second : ℕ) (k : Hand)
+    : Type 0 where
+  pub loaded : MakesIn h (LoadState place first) k
+  pub loaded_again : MakesIn h (LoadState place second) k
+  pub of_key : IsOfKey b key place k
+  pub differ : first ≢ second

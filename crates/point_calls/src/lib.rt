@@ -1,0 +1,10 @@
+//! A key is read, put and removed within one read section, tried once each.
+//!
+//! Every call says why it did not come to its end. The one entry of a call that did stands at a
+//! moment of the call: where the load, the exchange or the store was made that decided it.
+#![tactic(auto)]
+
+mod getting;
+mod lookup;
+
+pub use getting::get;

@@ -1,0 +1,64 @@
+//! The group of a key, and the look that ends a call which found it or missed it.
+ghost use Rattle.std.specs.Prelude.{◌≡◌, None};
+ghost use Rattle.index_rule.specs.Looks.{MayNote};
+ghost use Rattle.index_rule.specs.declared.tried.Tried.TheVariants.{Done};
+ghost use Rattle.point_calls.specs.PointCalls.{CanCall, KeepsRows, LooksUp};
+ghost use Rattle.point_calls.specs.Lookup.{ComesTo, HasMissed};
+
+use index_rule::{Board, Hand, Tried};
+use std::marker::Brand;
+use std::snapshot::Snapshot;
+
+/// Loads the group of the root's slot.
+#[inline]
+pub(crate) fn locate(board: &Board, hand: &mut Hand) -> u32
+    requires { CanCall board.now hand.old }
+    ensures comes { ComesTo board.now hand.old result hand.new }
+    ensures rows { KeepsRows board.now hand.old hand.new }
+{
+    board.load_root(hand);
+    board.load_slot_group(hand, 0, 0) as u32
+}
+
+/// Ends the call, which missed the key.
+#[inline]
+pub(crate) fn miss(
+    board: &Board,
+    hand: &mut Hand,
+    start: &Snapshot<Hand>,
+    group: u32,
+    key: u64,
+) -> Tried<Option<u64>>
+    requires { HasMissed board.now start.now.value hand.old group key }
+    ensures call { CanCall board.now hand.new }
+    ensures number { hand.new.number ≡ start.now.value.number }
+    ensures rows { KeepsRows board.now start.now.value hand.new }
+    ensures done { result ≡ Done None }
+    ensures looks { LooksUp board.now key start.now.value None hand.new }
+{
+    // No group is opened to a rebuild, so the key has no row in another buffer.
+    board.load_phase(hand, group);
+    look(board, hand, start, key, None)
+}
+
+/// Ends the call by its look, at a moment at which the key had this value, or none.
+#[inline]
+pub(crate) fn look(
+    board: &Board,
+    hand: &mut Hand,
+    start: &Snapshot<Hand>,
+    key: u64,
+    found: Option<u64>,
+) -> Tried<Option<u64>>
+    requires call { CanCall board.now hand.old }
+    requires rows { KeepsRows board.now start.now.value hand.old }
+    requires may { MayNote board.now start.now.value hand.old key found }
+    ensures call { CanCall board.now hand.new }
+    ensures number { hand.new.number ≡ start.now.value.number }
+    ensures rows { KeepsRows board.now start.now.value hand.new }
+    ensures done { result ≡ Done found }
+    ensures looks { LooksUp board.now key start.now.value found hand.new }
+{
+    board.note_look::<Brand>(hand, start, key, found);
+    Tried::Done(found)
+}
