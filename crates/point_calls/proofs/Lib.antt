@@ -1,2 +1,4 @@
 pub mod Knowing
 pub mod Locating
+pub mod Missing
+pub mod RowReading

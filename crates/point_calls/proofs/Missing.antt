@@ -1,0 +1,121 @@
+-- A key that the walk missed, or whose row is a tombstone, was not in the map then.
+use Rattle.std.proofs.Common.{◌≡◌, ℕ, ◌≤◌, inl, inr, ⊎_elim, Option, Some, None, [], ◌∷◌}
+use Rattle.std.proofs.Common.{false, refl, sym, ap, ◌∙◌, subst}
+use Rattle.map_model.specs.Map.{Map, look}
+use Rattle.word_layout.specs.Layout.{limits_of}
+use Rattle.word_layout.specs.declared.phase.Phase.TheVariants.{Open, Opened}
+use Rattle.index_machine.specs.declared.opening.Opening.{Opening}
+use Rattle.index_machine.specs.declared.events.Action.TheVariants.{LoadRoot, LoadSlotGroup}
+use Rattle.index_machine.specs.Conditions.{Valid}
+use Rattle.index_machine.specs.Execution.{Execution}
+use Rattle.index_machine.specs.Groups.{phase}
+use Rattle.index_machine.specs.LivePlaces.{value_in_map}
+use Rattle.index_machine.specs.OpeningRows.{opening_row, row_from}
+use Rattle.index_machine.specs.Openings.{greatest_key, opening_group}
+use Rattle.index_machine.specs.Groups.{phase}
+use Rattle.index_machine.specs.Represents.{has_stale_phase}
+use Rattle.index_machine.specs.Rows.{InArray, InBuffer, role, role_key}
+use Rattle.index_machine.proofs.OpeningRows.{opening_role-array}
+use Rattle.machine_readers.specs.Buffers.{rows}
+use Rattle.machine_readers.specs.Redirects.{HasNoValue}
+use Rattle.machine_readers.proofs.FromOpening.{gaps, not_found}
+use Rattle.machine_readers.proofs.ReachedForms.{keyed_in_group}
+use Rattle.index_rule.specs.declared.board.Board.{Board}
+use Rattle.index_rule.specs.declared.hand.Hand.{Hand}
+use Rattle.index_rule.specs.Built.{AreBuilt}
+use Rattle.index_rule.specs.Hands.{IsHandOf, Makes, known, opening_of}
+use Rattle.index_rule.specs.Moments.{AddsNoEntry, IsWithin}
+use Rattle.index_rule.specs.Records.{key_at, or_zero}
+use Rattle.index_rule.proofs.BufferStepping.{opened_walkable}
+use Rattle.index_rule.proofs.BuiltLaws.{arrays_as_opened, groups_as_opened, one_place_each}
+use Rattle.delta_buffer.specs.Searching.{CanSearch}
+use Rattle.record_cell.specs.Reads.{FindsNone}
+use Rattle.point_calls.specs.Lookup.{ComesTo, HasMissed}
+use Rattle.point_calls.specs.PointCalls.{OpensEmpty}
+use Rattle.point_calls.proofs.Knowing.{IsIn, in_first, in_step}
+
+no_pair : {X : Type 0} {r : ℕ × ℕ} → None ≡ Some r → X
+no_pair e = cc
+
+open_not : {X : Type 0} {f : ℕ} → Open ≡ Opened f → X
+open_not e = cc
+
+-- ---- an empty opening ----
+
+-- no array has a place for a key
+pub no_array : {X : Type 0} (o : Opening) (t : Execution) → o.rows ≡ [] → Valid o t → AreBuilt t →
+    (group k place : ℕ) → role o place t ≡ InArray group k → X
+no_array o t empty valid built group k place is =
+    let row = opening_role-array o place group k
+    ((arrays_as_opened o t valid built group k place).1 is) in
+    let none : opening_row o place ≡ None =
+    ap (λ (all : Map). row_from (limits_of o.layout) 0 all place) empty in
+    no_pair (sym none ∙ row.2)
+
+-- a key without a row in the buffer of its group is not in the map
+pub gap_absent : (o : Opening) (t : Execution) → o.rows ≡ [] → Valid o t → AreBuilt t →
+    (key g : ℕ) → opening_group o key ≡ g → look (rows g t) key ≡ None → value_in_map o key t ≡ None
+gap_absent o t empty valid built key g own gap =
+    (not_found o t valid key g (((groups_as_opened o t built).0 key).0 ∙ own)
+    (λ f e. open_not (sym ((groups_as_opened o t built).1 g) ∙ e))
+    (λ a is. no_array o t empty valid built g key a is)
+    (λ p is. absurd (gaps o t valid g key gap p is))).1
+
+-- nor one whose row has no value
+pub stone_absent : (b : Board) (h k : Hand) (g key place : ℕ) → OpensEmpty b →
+    role (opening_of b) place (known h) ≡ InBuffer g key →
+    (none : FindsNone b h place k) → Valid (opening_of b) none.0 → AreBuilt none.0 →
+    value_in_map (opening_of b) key none.0 ≡ None
+stone_absent b h k g key place empty row none valid built =
+    let o = opening_of b in
+    let t : Execution = none.0 in
+    let same : key_at o place (known h) ≡ key = ap (λ r. or_zero (role_key r)) row in
+    let here : role o place t ≡ InBuffer g key = none.2 ∙ row in
+    subst (λ (z : ℕ). value_in_map o z t ≡ None) same
+    (none.4 (λ other keyed.
+    let there = keyed_in_group o t other key (keyed ∙ ap (λ (z : ℕ). Some z) same) in
+    ⊎_elim
+    (λ (z : role o other t ≡ InArray there.0 key). no_array o t empty valid built there.0 key other z)
+    (λ (z : role o other t ≡ InBuffer there.0 key).
+    inl ((one_place_each o t valid built key other place there.0 g).1 z here)) there.1))
+
+-- ---- where the caller is ----
+
+-- the group to which it came is that of the key, by what the opening says
+pub group_opened : (b : Board) (h k : Hand) (g key : ℕ) → ComesTo b h g k → AreBuilt (known k) →
+    key ≤ greatest_key → opening_group (opening_of b) key ≡ g
+group_opened b h k g key comes built most =
+    sym (((groups_as_opened (opening_of b) (known k) built).0 key).0) ∙ comes.answers key most
+
+-- it is within its call there
+pub in_comes : (b : Board) (h k : Hand) (g : ℕ) → IsHandOf b h → ComesTo b h g k → IsIn b h k
+in_comes b h k g of comes =
+    let s = comes.steps in
+    let m : Hand = s.0 in
+    let loads : Makes b h (LoadRoot comes.root) m =
+    subst (λ (z : Hand). Makes b z (LoadRoot comes.root) m) s.1.1 s.1.2 in
+    in_step b h m k (LoadSlotGroup 0 0 g) tt s.2 (in_first b h m (LoadRoot comes.root) tt of loads)
+
+-- the key was missed
+pub missed : (b : Board) (start h : Hand) (g key : ℕ) → IsHandOf b start → IsIn b start h →
+    CanSearch b g h → AddsNoEntry start h → opening_group (opening_of b) key ≡ g →
+    (moment : Execution) → IsWithin start h moment →
+    value_in_map (opening_of b) key moment ≡ None → HasMissed b start h g key
+missed b start h g key of i can none own moment within absent =
+    let o = opening_of b in
+    record {
+      began = of;
+      call = record { of = can.of; reading = can.reading; holds_none = can.holds_none };
+      number = i.number;
+      sees = record {
+        allowed = inl (can.reading, can.stands);
+        true_word = subst (λ (z : ℕ). has_stale_phase z (known h) ≡ false) own
+            (opened_walkable o (known h) i.valid i.built key).1;
+      };
+      exists = can;
+      no_entry = none;
+      rows = i.rows;
+      moment = moment;
+      within = within;
+      absent = absent;
+    }

@@ -1,0 +1,136 @@
+-- What a read of a row tells of its key, within a call.
+use Rattle.std.proofs.Common.{◌≡◌, ◌≢◌, ℕ, inl, inr, true, Some, None, refl, sym, ap, ◌∙◌, subst}
+use Rattle.index_machine.specs.declared.events.Action.TheVariants.{LoadState, LoadValue}
+use Rattle.index_machine.specs.Execution.{Continues, Execution}
+use Rattle.index_machine.specs.LivePlaces.{value_in_map}
+use Rattle.index_machine.specs.Places.{form}
+use Rattle.index_machine.specs.Rows.{InBuffer, role, role_key}
+use Rattle.index_machine.proofs.Executions.{continues_trans}
+use Rattle.machine_places.proofs.Forms.{some_is}
+use Rattle.index_rule.specs.declared.board.Board.{Board}
+use Rattle.index_rule.specs.declared.hand.Hand.{Hand}
+use Rattle.index_rule.specs.Hands.{IsHandOf, Makes, known, opening_of}
+use Rattle.index_rule.specs.Looks.{MayNote}
+use Rattle.index_rule.specs.Moments.{AddsNoEntry, IsWithin}
+use Rattle.index_rule.specs.Records.{key_at, or_zero}
+use Rattle.index_rule.proofs.Calls.{goes_on}
+use Rattle.delta_buffer.specs.Searching.{CanSearch, IsReachedRow}
+use Rattle.delta_buffer.proofs.Stepping.{search_after}
+use Rattle.record_cell.specs.declared.answers.Read.{Read}
+use Rattle.record_cell.specs.declared.answers.Read.TheVariants as read
+use Rattle.record_cell.specs.Conditions.{IsLockedState}
+use Rattle.index_machine.specs.Sections.{IsCaller}
+use Rattle.record_cell.specs.Finding.{Finds, HasSameKey, IsReadyAt}
+use Rattle.record_cell.specs.Reads.{FindsLock, FindsNone, FindsValue, IsHeldByAnother, Reads}
+use Rattle.record_cell.proofs.Found.{found_in_place}
+use Rattle.point_calls.specs.Lookup.{HasMissed}
+use Rattle.point_calls.specs.PointCalls.{IsOfKey, MeetsChange, MeetsLock, OpensEmpty}
+use Rattle.point_calls.proofs.Knowing.{IsIn, built_at, in_step, made_in, made_on, valid_at}
+use Rattle.point_calls.proofs.Knowing.{within_whole}
+use Rattle.point_calls.proofs.Missing.{missed, stone_absent}
+use Rattle.index_machine.specs.Openings.{opening_group}
+
+-- the caller can act on the row that it found
+pub ready_row : (b : Board) (g key place : ℕ) (h : Hand) → CanSearch b g h →
+    IsReachedRow (opening_of b) h.number g key place (known h) → IsReadyAt b h place
+ready_row b g key place h can row =
+    record {
+      of = can.of;
+      at_own = record {
+        there = record { reading = can.reading; there = inr row.1 };
+        group = g;
+        key = key;
+        stands = can.stands;
+        in_group = inr row.0;
+      };
+      holds_none = can.holds_none;
+    }
+
+-- a place of the key of the row is one of the key
+pub of_row : (b : Board) (h k : Hand) (g key place at : ℕ) →
+    role (opening_of b) place (known h) ≡ InBuffer g key → HasSameKey b h place at k →
+    IsOfKey b key at k
+of_row b h k g key place at row same =
+    let is : same.0 ≡ key = some_is (sym same.1 ∙ ap role_key row) in
+    same.2 ∙ ap (λ (z : ℕ). Some z) is
+
+module _ (b : Board) (start h : Hand) (g key place : ℕ) (i : IsIn b start h) (can : CanSearch b g h)
+    (row : IsReachedRow (opening_of b) h.number g key place (known h)) where
+  ready : IsReadyAt b h place
+  ready = ready_row b g key place h can row
+
+  -- the state word that was found was loaded
+  module _ (k : Hand) (at word : ℕ) (finds : Finds b h place at word k) where
+    loaded_at : Makes b h (LoadState at word) k
+    loaded_at =
+        let here = found_in_place b h k place at word ready finds in
+        subst (λ (z : ℕ). Makes b h (LoadState z word) k) (sym here.0) here.1
+
+    pub in_found : IsIn b start k
+    in_found = in_step b start h k (LoadState at word) tt loaded_at i
+
+    search_found : CanSearch b g k
+    search_found = search_after b g h k (LoadState at word) tt (λ z. z) loaded_at can
+
+    -- a lock was met
+    pub meets_lock : IsLockedState word → FindsLock b h place at k → MeetsLock b key start at word k
+    meets_lock locked lock =
+        record {
+          loaded = made_in b start h k (LoadState at word) i loaded_at;
+          locked = locked;
+          of_key = of_row b h k g key place at row.0 lock.3;
+          moment = lock.0;
+          within = within_whole b start h k lock.0 i lock.1;
+          by_another = subst (λ (z : ℕ). IsHeldByAnother z (form (opening_of b) at lock.0)) i.number
+              lock.2;
+        }
+
+    -- a tombstone was found
+    pub missed_stone : IsHandOf b start → OpensEmpty b → AddsNoEntry start k →
+        opening_group (opening_of b) key ≡ g → FindsNone b h place k → HasMissed b start k g key
+    missed_stone of empty none own stone =
+        let on : Continues stone.0 (known k) = stone.1.5 in
+        missed b start k g key of in_found search_found none own stone.0
+        (within_whole b start h k stone.0 i stone.1)
+        (stone_absent b h k g key place empty row.0 stone
+        (valid_at b stone.0 (known k) on in_found.valid)
+        (built_at stone.0 (known k) on in_found.built))
+
+    -- the value and the state word were loaded behind it
+    module _ (m n : Hand) (value second : ℕ) (loads : Makes b k (LoadValue at value) m)
+        (again : Makes b m (LoadState at second) n) where
+      pub in_again : IsIn b start n
+      in_again =
+          in_step b start m n (LoadState at second) tt again
+          (in_step b start k m (LoadValue at value) tt loads in_found)
+
+      pub meets_change : word ≢ second → HasSameKey b h place at n →
+          MeetsChange b key start at word second n
+      meets_change differ same =
+          record {
+            loaded = made_on start k n (LoadState at word)
+                (made_in b start h k (LoadState at word) i loaded_at)
+                (continues_trans (known k) (known m) (known n)
+                (goes_on b k m (LoadValue at value) in_found.of loads)
+                (goes_on b m n (LoadState at second) loads.of again));
+            loaded_again = made_in b start m n (LoadState at second)
+                (in_step b start k m (LoadValue at value) tt loads in_found) again;
+            of_key = of_row b h n g key place at row.0 same;
+            differ = differ;
+          }
+
+  -- a value was found
+  pub may_note : (k : Hand) (value : ℕ) → IsHandOf b start → AddsNoEntry start k → IsIn b start k →
+      FindsValue b h place value k → MayNote b start k key (Some value)
+  may_note k value of none ik found =
+      let o = opening_of b in
+      let same : key_at o place (known h) ≡ key = ap (λ r. or_zero (role_key r)) row.0 in
+      record {
+        began = of;
+        caller = subst (λ (z : ℕ). IsCaller o z) (i.number ∙ sym ik.number) can.reading.caller;
+        number = ik.number;
+        no_entry = none;
+        moment = found.0;
+        within = within_whole b start h k found.0 i found.1;
+        value = subst (λ (z : ℕ). value_in_map o z found.0 ≡ Some value) same found.3;
+      }

@@ -1,0 +1,169 @@
+use Rattle.std.proofs.Common.{◌≡◌, ℕ, ◌≤◌, Option, Some, None, sym, ◌∙◌, subst, arith}
+use Rattle.index_machine.specs.Openings.{greatest_key, opening_group}
+use Rattle.index_rule.specs.declared.hand.Hand.{Hand}
+use Rattle.index_rule.specs.Hands.{known, opening_of}
+use Rattle.index_rule.specs.declared.tried.Tried.{Tried}
+use Rattle.index_rule.specs.Looks.{MayNote}
+use Rattle.point_calls.specs.Getting.{GetTells}
+use Rattle.point_calls.specs.Lookup.{HasMissed}
+use Rattle.point_calls.specs.PointCalls.{KeepsRows, LooksUp}
+use Rattle.point_calls.proofs.Knowing.{built_at, in_walk, valid_at, within_whole}
+use Rattle.point_calls.proofs.Missing.{gap_absent, group_opened, in_comes, missed}
+use Rattle.point_calls.proofs.RowReading.{in_again, in_found, may_note, meets_change, meets_lock}
+use Rattle.point_calls.proofs.RowReading.{missed_stone, ready_row}
+use Rattle.point_calls.proofs.getting.get.Goals as goal
+
+pub miss-requires : goal.miss-requires
+miss-requires c =
+    let b = c.args.board.now in
+    let h = c.args.hand.now in
+    let l = c.locate-group.new.hand in
+    let k = c.find.new.hand in
+    let g : ℕ = c.locate-group.result in
+    let key : ℕ = c.args.key in
+    let most : key ≤ greatest_key = omega arith in
+    let comes = c.locate-group.ensures.comes in
+    let il = in_comes b h l g c.requires.call.of comes in
+    let w = c.find.ensures.steps in
+    let ik = in_walk b g h l w.0 k w.1 w.2 il in
+    let own = group_opened b h l g key comes il.built most in
+    let gap = c.in_default.ensures.finds in
+    let on = gap.within.5 in
+    subst (λ (z : Hand). HasMissed b z k g key) (sym c.of-start.ensures)
+    (missed b h k g key c.requires.call.of ik c.find.ensures.search
+    (c.find.ensures.log ∙ comes.no_entry) own gap.moment (within_whole b h l k gap.moment il gap.within)
+    (gap_absent (opening_of b) gap.moment c.requires.empty
+    (valid_at b gap.moment (known k) on ik.valid) (built_at gap.moment (known k) on ik.built) key g
+    own gap.absent))
+
+pub read-requires : goal.read-requires
+read-requires c =
+    ready_row c.args.board.now c.locate-group.result c.args.key c.in-Row.place c.find.new.hand
+    c.find.ensures.search c.in-Row.ensures.finds
+
+pub look-requires-clause-rows : goal.look-requires-clause-rows
+look-requires-clause-rows c =
+    let b = c.args.board.now in
+    let h = c.args.hand.now in
+    let l = c.locate-group.new.hand in
+    let n = c.find.new.hand in
+    let g : ℕ = c.locate-group.result in
+    let w = c.find.ensures.steps in
+    let i = in_walk b g h l w.0 n w.1 w.2
+    (in_comes b h l g c.requires.call.of c.locate-group.ensures.comes) in
+    let s = c.in-Live.ensures.steps in
+    subst (λ (z : Hand). KeepsRows b z c.read.new.hand) (sym c.of-start.ensures)
+    (in_again b h n g c.args.key c.in-Row.place i c.find.ensures.search c.in-Row.ensures.finds s.2 s.0 s.1
+    s.3 s.5.0 c.read.new.hand c.in-Live.value s.1 s.5.1 s.5.2).rows
+
+pub look-requires-clause-may : goal.look-requires-clause-may
+look-requires-clause-may c =
+    let b = c.args.board.now in
+    let h = c.args.hand.now in
+    let l = c.locate-group.new.hand in
+    let n = c.find.new.hand in
+    let k = c.read.new.hand in
+    let g : ℕ = c.locate-group.result in
+    let key : ℕ = c.args.key in
+    let w = c.find.ensures.steps in
+    let i = in_walk b g h l w.0 n w.1 w.2
+    (in_comes b h l g c.requires.call.of c.locate-group.ensures.comes) in
+    let s = c.in-Live.ensures.steps in
+    let row = c.in-Row.ensures.finds in
+    let can = c.find.ensures.search in
+    let ik = in_again b h n g key c.in-Row.place i can row s.2 s.0 s.1 s.3 s.5.0 k c.in-Live.value s.1
+    s.5.1 s.5.2 in
+    subst (λ (z : Hand). MayNote b z k key (Some c.in-Live.value)) (sym c.of-start.ensures)
+    (may_note b h n g key c.in-Row.place i can row k c.in-Live.value c.requires.call.of
+    (c.read.ensures.log ∙ (c.find.ensures.log ∙ c.locate-group.ensures.comes.no_entry)) ik
+    c.in-Live.ensures.tells)
+
+pub miss-requires-in-Gone : goal.miss-requires-in-Gone
+miss-requires-in-Gone c =
+    let b = c.args.board.now in
+    let h = c.args.hand.now in
+    let l = c.locate-group.new.hand in
+    let n = c.find.new.hand in
+    let k = c.read.new.hand in
+    let g : ℕ = c.locate-group.result in
+    let key : ℕ = c.args.key in
+    let most : key ≤ greatest_key = omega arith in
+    let comes = c.locate-group.ensures.comes in
+    let il = in_comes b h l g c.requires.call.of comes in
+    let w = c.find.ensures.steps in
+    let i = in_walk b g h l w.0 n w.1 w.2 il in
+    let s = c.in-Gone.ensures.steps in
+    subst (λ (z : Hand). HasMissed b z k g key) (sym c.of-start.ensures)
+    (missed_stone b h n g key c.in-Row.place i c.find.ensures.search c.in-Row.ensures.finds k s.0 s.1
+    s.2 c.requires.call.of c.requires.empty
+    (c.read.ensures.log ∙ (c.find.ensures.log ∙ comes.no_entry))
+    (group_opened b h l g key comes il.built most) c.in-Gone.ensures.tells)
+
+pub returns-in-Locked-clause-rows : goal.returns-in-Locked-clause-rows
+returns-in-Locked-clause-rows c =
+    let b = c.args.board.now in
+    let h = c.args.hand.now in
+    let l = c.locate-group.new.hand in
+    let n = c.find.new.hand in
+    let g : ℕ = c.locate-group.result in
+    let w = c.find.ensures.steps in
+    let i = in_walk b g h l w.0 n w.1 w.2
+    (in_comes b h l g c.requires.call.of c.locate-group.ensures.comes) in
+    (in_found b h n g c.args.key c.in-Row.place i c.find.ensures.search c.in-Row.ensures.finds
+    c.read.new.hand c.in-Locked.place c.in-Locked.word c.in-Locked.ensures.steps.0).rows
+
+pub returns-in-Locked-clause-tells : goal.returns-in-Locked-clause-tells
+returns-in-Locked-clause-tells c =
+    let b = c.args.board.now in
+    let h = c.args.hand.now in
+    let l = c.locate-group.new.hand in
+    let n = c.find.new.hand in
+    let g : ℕ = c.locate-group.result in
+    let w = c.find.ensures.steps in
+    let i = in_walk b g h l w.0 n w.1 w.2
+    (in_comes b h l g c.requires.call.of c.locate-group.ensures.comes) in (
+      c.read.ensures.log ∙ (c.find.ensures.log ∙ c.locate-group.ensures.comes.no_entry),
+      meets_lock b h n g c.args.key c.in-Row.place i c.find.ensures.search c.in-Row.ensures.finds
+          c.read.new.hand c.in-Locked.place c.in-Locked.word c.in-Locked.ensures.steps.0
+          c.in-Locked.ensures.steps.1 c.in-Locked.ensures.tells,
+    )
+
+pub returns-clause-rows : goal.returns-clause-rows
+returns-clause-rows c =
+    let b = c.args.board.now in
+    let h = c.args.hand.now in
+    let l = c.locate-group.new.hand in
+    let n = c.find.new.hand in
+    let g : ℕ = c.locate-group.result in
+    let w = c.find.ensures.steps in
+    let i = in_walk b g h l w.0 n w.1 w.2
+    (in_comes b h l g c.requires.call.of c.locate-group.ensures.comes) in
+    let s = c.in-Changed.ensures.steps in
+    (in_again b h n g c.args.key c.in-Row.place i c.find.ensures.search c.in-Row.ensures.finds s.1
+    c.in-Changed.place c.in-Changed.first s.2 s.4.0 c.read.new.hand s.0 c.in-Changed.second s.4.1
+    s.4.2).rows
+
+pub returns-clause-tells : goal.returns-clause-tells
+returns-clause-tells c =
+    let b = c.args.board.now in
+    let h = c.args.hand.now in
+    let l = c.locate-group.new.hand in
+    let n = c.find.new.hand in
+    let g : ℕ = c.locate-group.result in
+    let w = c.find.ensures.steps in
+    let i = in_walk b g h l w.0 n w.1 w.2
+    (in_comes b h l g c.requires.call.of c.locate-group.ensures.comes) in
+    let s = c.in-Changed.ensures.steps in (
+      c.read.ensures.log ∙ (c.find.ensures.log ∙ c.locate-group.ensures.comes.no_entry),
+      meets_change b h n g c.args.key c.in-Row.place i c.find.ensures.search c.in-Row.ensures.finds s.1
+          c.in-Changed.place c.in-Changed.first s.2 s.4.0 c.read.new.hand s.0 c.in-Changed.second
+          s.4.1 s.4.2 s.5 c.in-Changed.ensures.tells,
+    )
+
+pub returns-in-Gone-clause-tells : goal.returns-in-Gone-clause-tells
+returns-in-Gone-clause-tells c =
+    let b = c.args.board.now in
+    let k = c.miss-in-Gone.new.hand in
+    let e = c.miss-in-Gone.ensures in
+    subst (λ (z : Tried (Option ℕ)). GetTells b c.args.key c.args.hand.now z k) (sym e.done)
+    (subst (λ (z : Hand). LooksUp b c.args.key z None k) c.of-start.ensures e.looks)
