@@ -1,8 +1,8 @@
 -- What a hand knows within a call, after each of its steps.
 use Rattle.std.proofs.Common.{◌≡◌, ◌≢◌, ℕ, Option, Some, None, [], ◌∷◌, ◌++◌, refl, sym, ap, ◌∙◌, subst}
 use Rattle.std.proofs.Common.{List}
-use Rattle.map_model.specs.declared.entries.Entry.{Entry}
-use Rattle.map_model.specs.declared.entries.Entry.TheVariants.{Look}
+use Rattle.map_model.specs.declared.entries.Change.{Change}
+use Rattle.map_model.specs.declared.entries.Entry.TheVariants.{Look, Made}
 use Rattle.map_model.specs.Answer.{pair_at}
 use Rattle.map_model.specs.Logs.{Log}
 use Rattle.std.specs.Prelude.{length}
@@ -24,7 +24,7 @@ use Rattle.index_rule.specs.declared.view.View.{View}
 use Rattle.index_rule.specs.Built.{AreBuilt}
 use Rattle.index_rule.specs.Hands.{IsHandOf, Makes, MakesAll, known, opening_of, view}
 use Rattle.index_rule.specs.Looks.{AddsLook}
-use Rattle.index_rule.specs.Moments.{AddsNoEntry, IsBetween, IsWithin}
+use Rattle.index_rule.specs.Moments.{AddsChange, AddsNoEntry, IsBetween, IsWithin}
 use Rattle.index_rule.specs.OwnRows.{place_of_private}
 use Rattle.index_rule.proofs.Calls.{HasBegun, begins, begun_on, from_there, goes_on, up_to}
 use Rattle.index_rule.proofs.Logging.{built_before}
@@ -111,6 +111,18 @@ in_walk b g start h (d ∷ actions) k are all i =
     in_step b start all.0 k d (walk_keeps g d are.0) all.2
     (in_walk b g start h actions all.0 are.1 all.1 i)
 
+-- none of the actions takes a row or gives one
+abbrev pub AreKept : List Action → Type 0
+AreKept [] = Unit {0}
+AreKept (d ∷ actions) = KeepsRoles d × AreKept actions
+
+-- behind several steps
+pub in_all : (b : Board) (start h : Hand) (actions : List Action) (k : Hand) → AreKept actions →
+    MakesAll b h actions k → IsIn b start h → IsIn b start k
+in_all b start h [] k kept all i = subst (IsIn b start) (sym all) i
+in_all b start h (d ∷ actions) k kept all i =
+    in_step b start all.0 k d kept.0 all.2 (in_all b start h actions all.0 kept.1 all.1 i)
+
 -- and what it walked over is behind what it knew
 pub walk_since : (b : Board) (g : ℕ) (start h : Hand) (actions : List Action) (k : Hand) →
     AreWalkOf g actions → MakesAll b h actions k → IsIn b start h → Continues (known h) (known k)
@@ -168,6 +180,19 @@ within_whole b start h k moment i w =
           (event start.number begun.0 ∷ begun.1 ++ known start) moment
           (event start.number begun.0 ∷ [], refl) begun.3,
       w.5,
+    )
+
+-- a change that a later part of the call added is one that the call added
+pub adds_whole : (b : Board) (start h k : Hand) (change same : Change) (old : Option ℕ) →
+    IsIn b start h → AddsNoEntry start h → change ≡ same → AddsChange b h change old k →
+    AddsChange b start same old k
+adds_whole b start h k change same old i none is adds =
+    let moment : Execution = adds.0 in
+    subst (λ (z : Change). AddsChange b start z old k) is (
+      moment,
+      within_whole b start h k moment i adds.1,
+      adds.2,
+      adds.3 ∙ ap (λ (l : Log). Made (length (history moment)) change old ∷ l) none,
     )
 
 -- what is valid and built at the end is so at a moment

@@ -2,3 +2,4 @@ pub mod Knowing
 pub mod Locating
 pub mod Missing
 pub mod RowReading
+pub mod RowChanging

@@ -61,7 +61,7 @@ module _ (b : Board) (start h : Hand) (g key place : ℕ) (i : IsIn b start h) (
 
   -- the state word that was found was loaded
   module _ (k : Hand) (at word : ℕ) (finds : Finds b h place at word k) where
-    loaded_at : Makes b h (LoadState at word) k
+    pub loaded_at : Makes b h (LoadState at word) k
     loaded_at =
         let here = found_in_place b h k place at word ready finds in
         subst (λ (z : ℕ). Makes b h (LoadState z word) k) (sym here.0) here.1

@@ -1,3 +1,5 @@
 pub mod PointCalls
 pub mod Lookup
 pub mod Getting
+pub mod Changing
+pub mod Removing

@@ -6,5 +6,7 @@
 
 mod getting;
 mod lookup;
+mod removing;
 
 pub use getting::get;
+pub use removing::remove;

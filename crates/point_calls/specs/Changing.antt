@@ -1,0 +1,38 @@
+-- Why a change of a record came to no end.
+use Rattle.std.specs.Prelude.{◌≡◌, ◌≢◌, ℕ, ◌+◌, ◌≤◌, Bool}
+use Rattle.word_layout.specs.declared.places.Part.TheVariants.{State}
+use Rattle.word_layout.specs.Places.{part_address}
+use Rattle.map_model.specs.History.{changes_at}
+use Rattle.index_machine.specs.declared.events.Action.TheVariants.{LoadState, FailLock}
+use Rattle.index_machine.specs.Execution.{Execution}
+use Rattle.index_machine.specs.Forms.{last_version}
+use Rattle.index_machine.specs.LivePlaces.{history}
+use Rattle.index_machine.specs.Places.{first_version}
+use Rattle.index_rule.specs.declared.board.Board.{Board}
+use Rattle.index_rule.specs.declared.hand.Hand.{Hand}
+use Rattle.index_rule.specs.Hands.{opening_of}
+use Rattle.index_rule.specs.Moments.{IsWithin}
+use Rattle.record_cell.specs.Writes.{worn_word}
+use Rattle.point_calls.specs.PointCalls.{IsOfKey, MakesIn}
+
+-- the exchange of the state word of a place of the key, at this address, found another word than the call
+-- had loaded there
+pub record LosesLock (b : Board) (key : ℕ) (h : Hand) (address expected found : ℕ) (k : Hand)
+    : Type 0 where
+  pub place : ℕ
+  pub is_address : address ≡ part_address place State
+  pub loaded : MakesIn h (LoadState place expected) k
+  pub failed : MakesIn h (FailLock place expected found) k
+  pub of_key : IsOfKey b key place k
+  pub differ : expected ≢ found
+
+-- the call loaded the state word of the last version at a place of the key, which had as many changes as
+-- raise a version to the last one
+pub record MeetsLast (b : Board) (key : ℕ) (h : Hand) (place word : ℕ) (k : Hand) : Type 0 where
+  pub loaded : MakesIn h (LoadState place word) k
+  pub removed : Bool
+  pub last : word ≡ worn_word removed
+  pub of_key : IsOfKey b key place k
+  pub moment : Execution
+  pub within : IsWithin h k moment
+  pub enough : last_version ≤ first_version (opening_of b) + changes_at key (history moment)

@@ -1,0 +1,46 @@
+//! A key is removed.
+ghost use Rattle.std.specs.Prelude.{◌≡◌};
+ghost use Rattle.point_calls.specs.PointCalls.{CanCall, KeepsRows, OpensEmpty};
+ghost use Rattle.point_calls.specs.Removing.{RemoveTells};
+
+use crate::lookup::{locate, miss};
+use delta_buffer::{Found, find};
+use index_rule::{Board, Hand, Tried, Why};
+use record_cell::{Wrote, kill};
+use std::snapshot::Snapshot;
+use word_layout::state_word;
+
+/// Removes the key, tried once, and answers the value that it had, or `None`.
+///
+/// A removal takes effect at the store that unlocks the record. `None` does at the load of the row's
+/// state word, or of the link that passed over the key.
+pub fn remove(board: &Board, hand: &mut Hand, key: u64) -> Tried<Option<u64>>
+    requires call { CanCall board.now hand.old }
+    requires empty { OpensEmpty board.now }
+    ensures call { CanCall board.now hand.new }
+    ensures number { hand.new.number ≡ hand.old.number }
+    ensures rows { KeepsRows board.now hand.old hand.new }
+    ensures tells { RemoveTells board.now key hand.old result hand.new }
+{
+    let start = Snapshot::of(&*hand);
+    let group = locate(board, hand);
+    let Found::Row(place) = find(board, hand, group, key) else {
+        return miss(board, hand, &start, group, key);
+    };
+    match kill(board, hand, place) {
+        Wrote::Done { old } => Tried::Done(old),
+        Wrote::Gone { .. } => miss(board, hand, &start, group, key),
+        Wrote::Live { .. } => unreachable!(),
+        Wrote::Locked { place, word } => Tried::Again(Why::Locked { place, word }),
+        Wrote::Raced {
+            place,
+            expected,
+            found,
+        } => Tried::Again(Why::Raced {
+            place: state_word(place),
+            expected,
+            found,
+        }),
+        Wrote::Worn { place, word } => Tried::Worn { place, word },
+    }
+}
