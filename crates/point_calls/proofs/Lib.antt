@@ -3,3 +3,4 @@ pub mod Locating
 pub mod Missing
 pub mod RowReading
 pub mod RowChanging
+pub mod RowPutting

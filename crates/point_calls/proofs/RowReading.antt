@@ -69,7 +69,7 @@ module _ (b : Board) (start h : Hand) (g key place : ℕ) (i : IsIn b start h) (
     pub in_found : IsIn b start k
     in_found = in_step b start h k (LoadState at word) tt loaded_at i
 
-    search_found : CanSearch b g k
+    pub search_found : CanSearch b g k
     search_found = search_after b g h k (LoadState at word) tt (λ z. z) loaded_at can
 
     -- a lock was met

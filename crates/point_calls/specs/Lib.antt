@@ -3,3 +3,4 @@ pub mod Lookup
 pub mod Getting
 pub mod Changing
 pub mod Removing
+pub mod Putting

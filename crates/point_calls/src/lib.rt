@@ -6,6 +6,7 @@
 
 mod getting;
 mod lookup;
+mod overwriting;
 mod removing;
 
 pub use getting::get;

@@ -1,0 +1,109 @@
+-- What a put of a key needs within its group, and what its answer tells.
+use Rattle.std.specs.Prelude.{◌≡◌, ◌≢◌, ◌⊎◌, ℕ, Option, None}
+use Rattle.map_model.specs.declared.entries.Change.TheVariants.{Put}
+use Rattle.word_layout.specs.declared.phase.Phase.TheVariants.{Frozen}
+use Rattle.word_layout.specs.Phase.{word_of_phase}
+use Rattle.word_layout.specs.Words.{address_of}
+use Rattle.index_machine.specs.declared.events.Action.TheVariants.{FailLink, FailPop, LoadFree}
+use Rattle.index_machine.specs.declared.events.Action.TheVariants.{LoadPhase, LoadState}
+use Rattle.index_machine.specs.Conditions.{Valid}
+use Rattle.index_machine.specs.Execution.{Execution}
+use Rattle.index_machine.specs.LivePlaces.{value_in_map}
+use Rattle.index_machine.specs.Openings.{opening_group}
+use Rattle.index_machine.specs.Words.{limits, link_behind, word}
+use Rattle.index_rule.specs.declared.board.Board.{Board}
+use Rattle.index_rule.specs.declared.hand.Hand.{Hand}
+use Rattle.index_rule.specs.declared.tried.Tried.{Tried}
+use Rattle.index_rule.specs.declared.tried.Tried.TheVariants as tried
+use Rattle.index_rule.specs.declared.tried.Why.{Why}
+use Rattle.index_rule.specs.declared.tried.Why.TheVariants as why
+use Rattle.index_rule.specs.Built.{AreBuilt}
+use Rattle.index_rule.specs.Hands.{IsHandOf, known, opening_of}
+use Rattle.index_rule.specs.Moments.{AddsChange, AddsNoEntry, IsWithin}
+use Rattle.delta_buffer.specs.Searching.{CanSearch, FindsGap, IsReachedRow}
+use Rattle.record_cell.specs.Conditions.{IsTombstoneState}
+use Rattle.point_calls.specs.Changing.{LosesLock, MeetsLast}
+use Rattle.point_calls.specs.PointCalls.{KeepsRows, MakesIn, MeetsChange, MeetsLock}
+
+-- ---- within its group ----
+
+-- in the call that began so the caller came to the group of the key, and has added no entry
+pub record IsInGroupOf (b : Board) (start h : Hand) (group key : ℕ) : Type 0 where
+  pub began : IsHandOf b start
+  pub search : CanSearch b group h
+  pub own : opening_group (opening_of b) key ≡ group
+  pub number : h.number ≡ start.number
+  pub within : IsWithin start h (known h)
+  pub valid : Valid (opening_of b) (known h)
+  pub built : AreBuilt (known h)
+  pub no_entry : AddsNoEntry start h
+  pub rows : KeepsRows b start h
+
+-- it found the row of the key there
+pub record HasFoundRow (b : Board) (start h : Hand) (group key place : ℕ) : Type 0 where
+  pub group_of : IsInGroupOf b start h group key
+  pub row : IsReachedRow (opening_of b) h.number group key place (known h)
+
+-- this row was a tombstone, by the state word that it loaded
+pub record HasFoundTombstone (b : Board) (start h : Hand) (group key place first : ℕ) : Type 0 where
+  pub found : HasFoundRow b start h group key place
+  pub loaded : MakesIn start (LoadState place first) h
+  pub stone : IsTombstoneState first
+
+-- it found no row of the key there, which belongs between these two places
+pub record HasFoundGap (b : Board) (start h : Hand) (group key before next : ℕ) : Type 0 where
+  pub group_of : IsInGroupOf b start h group key
+  pub gap : FindsGap b group key before next start h
+
+-- ---- why it is to be tried again ----
+
+-- the key was not in the map at a moment of the call
+abbrev pub IsMissing : Board → ℕ → Hand → Hand → Type 0
+IsMissing b key h k =
+    (moment : Execution) × IsWithin h k moment × (value_in_map (opening_of b) key moment ≡ None)
+
+-- the call loaded the phase of the group as frozen, and the key was not in the map
+pub record MeetsFrozen (b : Board) (key : ℕ) (h : Hand) (group word : ℕ) (k : Hand) : Type 0 where
+  pub loaded : MakesIn h (LoadPhase group word) k
+  pub frozen : word ≡ word_of_phase Frozen
+  pub missing : IsMissing b key h k
+
+-- the exchange of a link, at this address, found another word than the link had at a moment of the call
+pub record LosesLink (b : Board) (h : Hand) (address expected found : ℕ) (k : Hand) : Type 0 where
+  pub group : ℕ
+  pub before : ℕ
+  pub is_address : address ≡ address_of (limits (opening_of b)) (link_behind group before)
+  pub moment : Execution
+  pub within : IsWithin h k moment
+  pub was : word (opening_of b) moment (link_behind group before) ≡ expected
+  pub failed : MakesIn h (FailLink group before expected found) k
+  pub differ : expected ≢ found
+
+-- the exchange of the head of the free stack found another word than the call had loaded there
+pub record LosesHead (h : Hand) (address expected found : ℕ) (k : Hand) : Type 0 where
+  pub is_address : address ≡ 0
+  pub loaded : MakesIn h (LoadFree expected) k
+  pub failed : MakesIn h (FailPop expected found) k
+  pub differ : expected ≢ found
+
+-- why a put is to be tried again
+abbrev pub IsPutCause : Board → ℕ → Hand → Why → Hand → Type 0
+IsPutCause b key h (why.Locked place word) k = MeetsLock b key h place word k
+IsPutCause b key h (why.Changed place first second) k = MeetsChange b key h place first second k
+IsPutCause b key h (why.Frozen group word) k = MeetsFrozen b key h group word k
+IsPutCause b key h (why.Raced address expected found) k =
+    LosesLock b key h address expected found k
+    ⊎ (LosesLink b h address expected found k ⊎ LosesHead h address expected found k)
+
+-- ---- what the answer tells ----
+
+-- no row was free: the call loaded 0 as the head of the free stack, and the key was not in the map
+abbrev pub MeetsNoRow : Board → ℕ → Hand → Hand → Type 0
+MeetsNoRow b key h k = MakesIn h (LoadFree 0) k × IsMissing b key h k
+
+-- what the answer of a put tells of the key, and the entry that it added
+abbrev pub PutTells : Board → ℕ → ℕ → Hand → Tried (Option ℕ) → Hand → Type 0
+PutTells b key value h (tried.Done old) k = AddsChange b h (Put h.number key value) old k
+PutTells b key value h (tried.Again cause) k = AddsNoEntry h k × IsPutCause b key h cause k
+PutTells b key value h tried.Full k = AddsNoEntry h k × MeetsNoRow b key h k
+PutTells b key value h (tried.Worn place word) k = AddsNoEntry h k × MeetsLast b key h place word k

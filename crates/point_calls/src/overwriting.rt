@@ -1,0 +1,88 @@
+//! A row that a key has is given a value.
+ghost use Rattle.std.specs.Prelude.{◌≡◌};
+ghost use Rattle.point_calls.specs.PointCalls.{CanCall, KeepsRows, OpensEmpty};
+ghost use Rattle.point_calls.specs.Putting.{HasFoundRow, HasFoundTombstone, PutTells};
+
+use index_rule::{Board, Hand, Tried, Why};
+use record_cell::{Wrote, revive, update};
+use std::snapshot::Snapshot;
+use word_layout::state_word;
+
+/// Gives the row of the key the value, tried once, whether it is a tombstone or not.
+#[inline]
+pub(crate) fn overwrite(
+    board: &Board,
+    hand: &mut Hand,
+    start: &Snapshot<Hand>,
+    group: u32,
+    place: u32,
+    key: u64,
+    value: u64,
+) -> Tried<Option<u64>>
+    requires empty { OpensEmpty board.now }
+    requires found { HasFoundRow board.now start.now.value hand.old group key place }
+    ensures call { CanCall board.now hand.new }
+    ensures number { hand.new.number ≡ start.now.value.number }
+    ensures rows { KeepsRows board.now start.now.value hand.new }
+    ensures tells { PutTells board.now key value start.now.value result hand.new }
+{
+    match update(board, hand, place, value) {
+        Wrote::Done { old } => Tried::Done(old),
+        Wrote::Gone { word } => bring_back(board, hand, start, group, place, word, key, value),
+        Wrote::Live { .. } => unreachable!(),
+        Wrote::Locked { place, word } => Tried::Again(Why::Locked { place, word }),
+        Wrote::Raced {
+            place,
+            expected,
+            found,
+        } => Tried::Again(Why::Raced {
+            place: state_word(place),
+            expected,
+            found,
+        }),
+        Wrote::Worn { place, word } => Tried::Worn { place, word },
+    }
+}
+
+/// Gives the tombstone of the key the value, tried once. `first` is the state word by which it is one.
+#[inline]
+fn bring_back(
+    board: &Board,
+    hand: &mut Hand,
+    start: &Snapshot<Hand>,
+    group: u32,
+    place: u32,
+    first: u64,
+    key: u64,
+    value: u64,
+) -> Tried<Option<u64>>
+    requires empty { OpensEmpty board.now }
+    requires found { HasFoundTombstone board.now start.now.value hand.old group key place first }
+    ensures call { CanCall board.now hand.new }
+    ensures number { hand.new.number ≡ start.now.value.number }
+    ensures rows { KeepsRows board.now start.now.value hand.new }
+    ensures tells { PutTells board.now key value start.now.value result hand.new }
+{
+    // The group is open, so the caller has leave to insert from here on.
+    board.load_phase(hand, group);
+    match revive(board, hand, place, value) {
+        Wrote::Done { old } => Tried::Done(old),
+        Wrote::Gone { .. } => unreachable!(),
+        Wrote::Live { word } => Tried::Again(Why::Changed {
+            place,
+            first,
+            second: word,
+        }),
+        Wrote::Locked { place, word } => Tried::Again(Why::Locked { place, word }),
+        Wrote::Raced {
+            place,
+            expected,
+            found,
+        } => Tried::Again(Why::Raced {
+            place: state_word(place),
+            expected,
+            found,
+        }),
+        Wrote::Worn { place, word } => Tried::Worn { place, word },
+    }
+}
