@@ -4,3 +4,4 @@ pub mod Missing
 pub mod RowReading
 pub mod RowChanging
 pub mod RowPutting
+pub mod NewRows

@@ -27,7 +27,7 @@ use Rattle.index_rule.proofs.BuiltLaws.{groups_as_opened}
 use Rattle.index_rule.proofs.Calls.{goes_on, is_within}
 use Rattle.index_rule.proofs.RecordReading.{no_entry}
 use Rattle.index_rule.proofs.RecordStepping.{now, same_role, still_reached}
-use Rattle.delta_buffer.specs.Searching.{CanSearch, IsReachedRow}
+use Rattle.delta_buffer.specs.Searching.{CanSearch, FindsGap, IsReachedRow}
 use Rattle.delta_buffer.proofs.Stepping.{search_after}
 use Rattle.record_cell.specs.declared.answers.Wrote.TheVariants as wrote
 use Rattle.record_cell.specs.Conditions.{IsLiveState, IsTombstoneState}
@@ -36,8 +36,8 @@ use Rattle.record_cell.specs.Reviving.{BringsToLife, MayRevive}
 use Rattle.record_cell.specs.Writes.{put_at}
 use Rattle.record_cell.proofs.Found.{found_in_place}
 use Rattle.point_calls.specs.PointCalls.{MeetsChange, OpensEmpty}
-use Rattle.point_calls.specs.Putting.{HasFoundRow, HasFoundTombstone, IsInGroupOf}
-use Rattle.point_calls.proofs.Knowing.{IsIn, in_all, in_step, made_in, made_on}
+use Rattle.point_calls.specs.Putting.{HasFoundGap, HasFoundRow, HasFoundTombstone, IsInGroupOf}
+use Rattle.point_calls.proofs.Knowing.{IsIn, in_all, in_step, made_in, made_on, within_whole}
 use Rattle.point_calls.proofs.Missing.{no_array}
 use Rattle.point_calls.proofs.RowReading.{ready_row}
 
@@ -201,3 +201,41 @@ module _ (b : Board) (start n : Hand) (g key place : ℕ) (at : IsInGroupOf b st
             (row_on b start n k g key (LoadState place second) tt (λ z. z) tt s at place row).0;
         differ = stone_not_live first second stone.stone live;
       }
+
+-- ---- what was found ----
+
+-- the caller came to the group of the key and walked its buffer
+pub found_group : (b : Board) (start l n : Hand) (g key : ℕ) → IsHandOf b start →
+    opening_group (opening_of b) key ≡ g → IsIn b start n → CanSearch b g n → AddsNoEntry start n →
+    IsInGroupOf b start n g key
+found_group b start l n g key of own i can none =
+    record {
+      began = of;
+      search = can;
+      own = own;
+      number = i.number;
+      within = is_within start n (known n) i.begun (continues_same (known n));
+      valid = i.valid;
+      built = i.built;
+      no_entry = none;
+      rows = i.rows;
+    }
+
+-- and found a gap there
+pub found_gap : (b : Board) (start l n : Hand) (g key before next : ℕ) → IsIn b start l →
+    IsInGroupOf b start n g key → FindsGap b g key before next l n →
+    HasFoundGap b start n g key before next
+found_gap b start l n g key before next i at gap =
+    record {
+      group_of = at;
+      gap = record {
+        moment = gap.moment;
+        within = within_whole b start l n gap.moment i gap.within;
+        absent = gap.absent;
+        leads = gap.leads;
+        empty = gap.empty;
+        ahead = gap.ahead;
+        belonged = gap.belonged;
+        belongs = gap.belongs;
+      };
+    }

@@ -1,18 +1,22 @@
 -- What a put of a key needs within its group, and what its answer tells.
-use Rattle.std.specs.Prelude.{◌≡◌, ◌≢◌, ◌⊎◌, ℕ, Option, None}
+use Rattle.std.specs.Prelude.{◌≡◌, ◌≢◌, ◌⊎◌, ℕ, true, Option, None}
 use Rattle.map_model.specs.declared.entries.Change.TheVariants.{Put}
+use Rattle.map_model.specs.Map.{look}
 use Rattle.word_layout.specs.declared.phase.Phase.TheVariants.{Frozen}
 use Rattle.word_layout.specs.Phase.{word_of_phase}
 use Rattle.word_layout.specs.Words.{address_of}
 use Rattle.index_machine.specs.declared.events.Action.TheVariants.{FailLink, FailPop, LoadFree}
 use Rattle.index_machine.specs.declared.events.Action.TheVariants.{LoadPhase, LoadState}
 use Rattle.index_machine.specs.Conditions.{Valid}
-use Rattle.index_machine.specs.Execution.{Execution}
+use Rattle.index_machine.specs.Execution.{Continues, Execution}
 use Rattle.index_machine.specs.LivePlaces.{value_in_map}
 use Rattle.index_machine.specs.Openings.{opening_group}
+use Rattle.index_machine.specs.Reaching.{saw_open}
 use Rattle.index_machine.specs.Words.{limits, link_behind, word}
+use Rattle.machine_readers.specs.Buffers.{rows}
 use Rattle.index_rule.specs.declared.board.Board.{Board}
 use Rattle.index_rule.specs.declared.hand.Hand.{Hand}
+use Rattle.index_rule.specs.declared.rows.PrivateRow.{PrivateRow}
 use Rattle.index_rule.specs.declared.tried.Tried.{Tried}
 use Rattle.index_rule.specs.declared.tried.Tried.TheVariants as tried
 use Rattle.index_rule.specs.declared.tried.Why.{Why}
@@ -20,10 +24,10 @@ use Rattle.index_rule.specs.declared.tried.Why.TheVariants as why
 use Rattle.index_rule.specs.Built.{AreBuilt}
 use Rattle.index_rule.specs.Hands.{IsHandOf, known, opening_of}
 use Rattle.index_rule.specs.Moments.{AddsChange, AddsNoEntry, IsWithin}
-use Rattle.delta_buffer.specs.Searching.{CanSearch, FindsGap, IsReachedRow}
+use Rattle.delta_buffer.specs.Searching.{BelongsBetween, CanSearch, FindsGap, IsReachedRow}
 use Rattle.record_cell.specs.Conditions.{IsTombstoneState}
 use Rattle.point_calls.specs.Changing.{LosesLock, MeetsLast}
-use Rattle.point_calls.specs.PointCalls.{KeepsRows, MakesIn, MeetsChange, MeetsLock}
+use Rattle.point_calls.specs.PointCalls.{HasSpare, KeepsRows, MakesIn, MeetsChange, MeetsLock}
 
 -- ---- within its group ----
 
@@ -107,3 +111,36 @@ PutTells b key value h (tried.Done old) k = AddsChange b h (Put h.number key val
 PutTells b key value h (tried.Again cause) k = AddsNoEntry h k × IsPutCause b key h cause k
 PutTells b key value h tried.Full k = AddsNoEntry h k × MeetsNoRow b key h k
 PutTells b key value h (tried.Worn place word) k = AddsNoEntry h k × MeetsLast b key h place word k
+
+-- a put is full only without a spare row
+abbrev pub IsFullOnly : Option PrivateRow → Tried (Option ℕ) → Type 0
+IsFullOnly spare answer = answer ≡ tried.Full → spare ≡ None
+
+-- ---- a new row ----
+
+-- the caller saw the group of the key open, where the key belongs between these two places: at a moment of
+-- its call the key had no row there, and the link behind the first led to the second
+pub record MayLinkIn (b : Board) (start h : Hand) (group key before next : ℕ) : Type 0 where
+  pub began : IsHandOf b start
+  pub search : CanSearch b group h
+  pub own : opening_group (opening_of b) key ≡ group
+  pub number : h.number ≡ start.number
+  pub within : IsWithin start h (known h)
+  pub since : Continues (known start) (known h)
+  pub valid : Valid (opening_of b) (known h)
+  pub built : AreBuilt (known h)
+  pub no_entry : AddsNoEntry start h
+  pub moment : Execution
+  pub moment_within : IsWithin start h moment
+  pub absent : look (rows group moment) key ≡ None
+  pub leads : word (opening_of b) moment (link_behind group before) ≡ next
+  pub between : BelongsBetween (opening_of b) group key before next (known h)
+  pub seen : saw_open h.number group (known h) ≡ true
+
+-- no row could be taken: none was free, and then there was no spare one; or the exchange of the head was lost
+abbrev pub GetsNoRow : Board → ℕ → Hand → Option PrivateRow → Tried (Option ℕ) → Hand → Type 0
+GetsNoRow b key start spare tried.Full k =
+    (spare ≡ None) × HasSpare b k None × MeetsNoRow b key start k
+GetsNoRow b key start spare (tried.Again (why.Raced address expected found)) k =
+    HasSpare b k None × LosesHead start address expected found k
+GetsNoRow b key start spare answer k = ⊥

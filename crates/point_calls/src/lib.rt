@@ -5,9 +5,12 @@
 #![tactic(auto)]
 
 mod getting;
+mod linking;
 mod lookup;
 mod overwriting;
+mod putting;
 mod removing;
 
 pub use getting::get;
+pub use putting::put;
 pub use removing::remove;

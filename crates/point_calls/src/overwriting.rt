@@ -1,5 +1,6 @@
 //! A row that a key has is given a value.
-ghost use Rattle.std.specs.Prelude.{◌≡◌};
+ghost use Rattle.std.specs.Prelude.{◌≡◌, ◌≢◌};
+ghost use Rattle.index_rule.specs.declared.tried.Tried.TheVariants.{Full};
 ghost use Rattle.point_calls.specs.PointCalls.{CanCall, KeepsRows, OpensEmpty};
 ghost use Rattle.point_calls.specs.Putting.{HasFoundRow, HasFoundTombstone, PutTells};
 
@@ -25,6 +26,7 @@ pub(crate) fn overwrite(
     ensures number { hand.new.number ≡ start.now.value.number }
     ensures rows { KeepsRows board.now start.now.value hand.new }
     ensures tells { PutTells board.now key value start.now.value result hand.new }
+    ensures not_full { result ≢ Full }
 {
     match update(board, hand, place, value) {
         Wrote::Done { old } => Tried::Done(old),
@@ -62,6 +64,7 @@ fn bring_back(
     ensures number { hand.new.number ≡ start.now.value.number }
     ensures rows { KeepsRows board.now start.now.value hand.new }
     ensures tells { PutTells board.now key value start.now.value result hand.new }
+    ensures not_full { result ≢ Full }
 {
     // The group is open, so the caller has leave to insert from here on.
     board.load_phase(hand, group);

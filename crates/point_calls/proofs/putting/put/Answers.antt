@@ -1,0 +1,65 @@
+use Rattle.std.proofs.Common.{◌≡◌, ℕ, ◌≤◌, Option, sym, ◌∙◌, subst, arith}
+use Rattle.index_machine.specs.Openings.{greatest_key}
+use Rattle.index_rule.specs.declared.hand.Hand.{Hand}
+use Rattle.index_rule.specs.declared.tried.Tried.{Tried}
+use Rattle.point_calls.specs.Putting.{HasFoundGap, HasFoundRow, PutTells}
+use Rattle.point_calls.proofs.Knowing.{in_walk, spare_on}
+use Rattle.point_calls.proofs.Missing.{group_opened, in_comes}
+use Rattle.point_calls.proofs.RowPutting.{found_gap, found_group}
+use Rattle.point_calls.proofs.putting.put.Goals as goal
+
+pub overwrite-requires-clause-found : goal.overwrite-requires-clause-found
+overwrite-requires-clause-found c =
+    let b = c.args.board.now in
+    let h = c.args.hand.now in
+    let l = c.locate-group.new.hand in
+    let n = c.find.new.hand in
+    let g : ℕ = c.locate-group.result in
+    let key : ℕ = c.args.key in
+    let most : key ≤ greatest_key = omega arith in
+    let comes = c.locate-group.ensures.comes in
+    let il = in_comes b h l g c.requires.call.of comes in
+    let w = c.find.ensures.steps in
+    let i = in_walk b g h l w.0 n w.1 w.2 il in
+    let at = found_group b h l n g key c.requires.call.of (group_opened b h l g key comes il.built most) i
+    c.find.ensures.search (c.find.ensures.log ∙ comes.no_entry) in
+    subst (λ (z : Hand). HasFoundRow b z n g key c.in-Row.place) (sym c.of-start.ensures)
+    (record { group_of = at; row = c.in-Row.ensures.finds })
+
+pub link_new-requires-clause-found : goal.link_new-requires-clause-found
+link_new-requires-clause-found c =
+    let b = c.args.board.now in
+    let h = c.args.hand.now in
+    let l = c.locate-group.new.hand in
+    let n = c.find.new.hand in
+    let g : ℕ = c.locate-group.result in
+    let key : ℕ = c.args.key in
+    let most : key ≤ greatest_key = omega arith in
+    let comes = c.locate-group.ensures.comes in
+    let il = in_comes b h l g c.requires.call.of comes in
+    let w = c.find.ensures.steps in
+    let i = in_walk b g h l w.0 n w.1 w.2 il in
+    let at = found_group b h l n g key c.requires.call.of (group_opened b h l g key comes il.built most) i
+    c.find.ensures.search (c.find.ensures.log ∙ comes.no_entry) in
+    subst (λ (z : Hand). HasFoundGap b z n g key c.in-Gap.before c.in-Gap.next) (sym c.of-start.ensures)
+    (found_gap b h l n g key c.in-Gap.before c.in-Gap.next il at c.in-Gap.ensures.finds)
+
+pub link_new-requires-clause-spare : goal.link_new-requires-clause-spare
+link_new-requires-clause-spare c =
+    let b = c.args.board.now in
+    let h = c.args.hand.now in
+    let l = c.locate-group.new.hand in
+    let n = c.find.new.hand in
+    let g : ℕ = c.locate-group.result in
+    let key : ℕ = c.args.key in
+    let most : key ≤ greatest_key = omega arith in
+    let comes = c.locate-group.ensures.comes in
+    let il = in_comes b h l g c.requires.call.of comes in
+    let w = c.find.ensures.steps in
+    let i = in_walk b g h l w.0 n w.1 w.2 il in
+    let at = found_group b h l n g key c.requires.call.of (group_opened b h l g key comes il.built most) i
+    c.find.ensures.search (c.find.ensures.log ∙ comes.no_entry) in
+    i.rows c.args.spare.now c.requires.spare
+
+pub returns-in-Row-clause-full : goal.returns-in-Row-clause-full
+returns-in-Row-clause-full c = λ full. absurd (c.overwrite.ensures.not_full full)

@@ -1,0 +1,119 @@
+//! A new row for a key is linked.
+ghost use Rattle.std.specs.Prelude.{◌≡◌, ◌<◌, ◌^◌, MatchResult, None, Some};
+ghost use Rattle.word_layout.specs.Words.{address_of};
+ghost use Rattle.index_machine.specs.Words.{limits, link_behind};
+ghost use Rattle.index_rule.specs.Hands.{opening_of};
+ghost use Rattle.point_calls.specs.PointCalls.{CanCall, HasSpare, OpensEmpty};
+ghost use Rattle.point_calls.specs.Putting.{HasFoundGap, IsFullOnly, MayLinkIn, PutTells};
+ghost use Rattle.point_calls.specs.Putting.{GetsNoRow};
+
+use delta_buffer::insert;
+use index_rule::{Board, Hand, Linked, PrivateRow, Tried, Why};
+use row_arena::{Taken, fill, take};
+use std::snapshot::Snapshot;
+use word_layout::{Phase, link_word};
+
+/// Links a row for the key between two places, tried once. It takes effect at the exchange of the
+/// link.
+#[inline]
+pub(crate) fn link_new(
+    board: &Board,
+    hand: &mut Hand,
+    start: &Snapshot<Hand>,
+    spare: &mut Option<PrivateRow>,
+    group: u32,
+    before: u32,
+    next: u32,
+    key: u64,
+    value: u64,
+) -> Tried<Option<u64>>
+    requires empty { OpensEmpty board.now }
+    requires spare { HasSpare board.now hand.old spare.old }
+    requires found { HasFoundGap board.now start.now.value hand.old group key before next }
+    ensures call { CanCall board.now hand.new }
+    ensures number { hand.new.number ≡ start.now.value.number }
+    ensures spare { HasSpare board.now hand.new spare.new }
+    ensures tells { PutTells board.now key value start.now.value result hand.new }
+    ensures full { IsFullOnly spare.old result }
+{
+    let word = board.load_phase(hand, group);
+    // Frozen is met before a row is taken, so it stands before Full.
+    if word != Phase::Open.word() {
+        return Tried::Again(Why::Frozen { group, word });
+    }
+    let mut row = match own_row(board, hand, start, spare, group, before, next, key) {
+        Ok(row) => row,
+        Err(refusal) => return refusal,
+    };
+    fill(board, hand, &mut row, key, value);
+    match insert(board, hand, group, before, next, row) {
+        Linked::Done => Tried::Done(None),
+        Linked::Raced { row, found } => {
+            keep(spare, row);
+            Tried::Again(Why::Raced {
+                place: link_address(board, group, before),
+                expected: next as u64,
+                found,
+            })
+        }
+    }
+}
+
+/// A row of the hand's own: the spare one, or else one that is taken, tried once.
+#[inline]
+fn own_row(
+    board: &Board,
+    hand: &mut Hand,
+    start: &Snapshot<Hand>,
+    spare: &mut Option<PrivateRow>,
+    group: u32,
+    before: u32,
+    next: u32,
+    key: u64,
+) -> Result<PrivateRow, Tried<Option<u64>>>
+    requires empty { OpensEmpty board.now }
+    requires spare { HasSpare board.now hand.old spare.old }
+    requires may { MayLinkIn board.now start.now.value hand.old group key before next }
+    ensures gone { spare.new ≡ None }
+    ensures may { MayLinkIn board.now start.now.value hand.new group key before next }
+    ensures answer { MatchResult result (λ row. HasSpare board.now hand.new (Some row))
+        (λ refusal. GetsNoRow board.now key start.now.value spare.old refusal hand.new) }
+{
+    match spare.take() {
+        Some(row) => Ok(row),
+        None => match take(board, hand) {
+            Taken::Row(row) => Ok(row),
+            Taken::Empty => Err(Tried::Full),
+            Taken::Raced { expected, found } => Err(Tried::Again(Why::Raced {
+                place: 0,
+                expected,
+                found,
+            })),
+        },
+    }
+}
+
+/// Keeps the row for a later insertion. There is none there.
+#[inline]
+fn keep(spare: &mut Option<PrivateRow>, row: PrivateRow)
+    requires { spare.old ≡ None }
+    ensures { spare.new ≡ Some row }
+{
+    if let Some(other) = spare.replace(row) {
+        other.forget();
+    }
+}
+
+/// The address of the link behind a row, or of the head for 0.
+#[inline]
+fn link_address(board: &Board, group: u32, before: u32) -> u32
+    requires group { group < (limits (opening_of board.now)).groups }
+    requires place { before < 2 ^ 28 }
+    ensures { result ≡ address_of (limits (opening_of board.now)) (link_behind group before) }
+{
+    if before == 0 {
+        board.layout().header(group, 3)
+    } else {
+        link_word(before)
+    }
+}

@@ -1,0 +1,41 @@
+//! A key is put.
+ghost use Rattle.std.specs.Prelude.{◌≡◌};
+ghost use Rattle.point_calls.specs.PointCalls.{CanCall, HasSpare, OpensEmpty};
+ghost use Rattle.point_calls.specs.Putting.{IsFullOnly, PutTells};
+
+use crate::linking::link_new;
+use crate::lookup::locate;
+use crate::overwriting::overwrite;
+use delta_buffer::{Found, find};
+use index_rule::{Board, Hand, PrivateRow, Tried};
+use std::snapshot::Snapshot;
+
+/// Gives the key the value, tried once, and answers the one that it had, or `None`.
+///
+/// It takes effect at the store that unlocks the key's record, or at the exchange of the link by which
+/// its new row comes into the buffer. A filled row that was not linked stays as `spare`.
+pub fn put(
+    board: &Board,
+    hand: &mut Hand,
+    spare: &mut Option<PrivateRow>,
+    key: u64,
+    value: u64,
+) -> Tried<Option<u64>>
+    requires call { CanCall board.now hand.old }
+    requires empty { OpensEmpty board.now }
+    requires spare { HasSpare board.now hand.old spare.old }
+    ensures call { CanCall board.now hand.new }
+    ensures number { hand.new.number ≡ hand.old.number }
+    ensures spare { HasSpare board.now hand.new spare.new }
+    ensures tells { PutTells board.now key value hand.old result hand.new }
+    ensures full { IsFullOnly spare.old result }
+{
+    let start = Snapshot::of(&*hand);
+    let group = locate(board, hand);
+    match find(board, hand, group, key) {
+        Found::Row(place) => overwrite(board, hand, &start, group, place, key, value),
+        Found::Gap { before, next } => {
+            link_new(board, hand, &start, spare, group, before, next, key, value)
+        }
+    }
+}
