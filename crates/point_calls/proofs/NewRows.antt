@@ -1,11 +1,22 @@
 -- What a caller that is to link a new row knows after each of its steps.
-use Rattle.std.proofs.Common.{◌≡◌, ℕ, ◌<◌, inl, inr, ⊎_elim, true, None, List, [], ◌∷◌, ◌++◌, refl, sym, ap}
+use Rattle.std.proofs.Common.{◌≡◌, ℕ, ◌<◌, inl, inr, ⊎_elim, true, false, None, List, [], ◌∷◌, ◌++◌, refl, sym, ap}
 use Rattle.std.proofs.Common.{◌∙◌, subst}
+use Rattle.word_layout.specs.declared.places.Part.TheVariants as part
+use Rattle.word_layout.specs.Words.{PlaceWord}
 use Rattle.index_machine.specs.declared.events.Action.{Action}
+use Rattle.index_machine.specs.declared.events.Action.TheVariants.{Enter, Leave, LoadPhase, StorePrivate}
+use Rattle.index_machine.specs.Forms.{Unlocked, state_word}
+use Rattle.index_machine.specs.Places.{first_version}
+use Rattle.index_machine.specs.Words.{word}
+use Rattle.machine_buffers.proofs.Inserting.{link_open}
+use Rattle.index_rule.proofs.BuiltLaws.{groups_as_opened}
+use Rattle.delta_buffer.specs.Inserting.{BelongsUntilLinked, CanInsert, IsPrivateStore, OnlyStores}
+use Rattle.delta_buffer.specs.Searching.{BelongsBetween}
+use Rattle.point_calls.proofs.RowPutting.{group_seen, is_in, seen_open}
 use Rattle.index_machine.specs.Execution.{Continues, Execution, event}
 use Rattle.index_machine.specs.Reaching.{saw_open}
-use Rattle.index_machine.specs.Rows.{InBuffer, role}
-use Rattle.index_machine.specs.Sections.{IsNoCrossing}
+use Rattle.index_machine.specs.Rows.{Holds, InBuffer, role}
+use Rattle.index_machine.specs.Sections.{IsNoCrossing, StaysInside}
 use Rattle.index_machine.proofs.Executions.{continues_same, continues_trans}
 use Rattle.index_machine.proofs.Holders.{TakesLock}
 use Rattle.machine_readers.proofs.ReadSections.{saw_open_on}
@@ -19,9 +30,9 @@ use Rattle.index_rule.proofs.RecordStepping.{goes_on_inside, now, since}
 use Rattle.index_rule.proofs.Stepping.{built_known, known_is, valid_known}
 use Rattle.delta_buffer.proofs.Stepping.{before_after, search_after}
 use Rattle.point_calls.specs.PointCalls.{MakesIn, OpensEmpty}
-use Rattle.point_calls.specs.Putting.{IsMissing, MayLinkIn}
+use Rattle.point_calls.specs.Putting.{HasFoundGap, IsMissing, MayLinkIn}
 use Rattle.point_calls.proofs.Knowing.{built_at, valid_at, within_on}
-use Rattle.point_calls.proofs.Missing.{gap_absent}
+use Rattle.point_calls.proofs.Missing.{gap_absent, no_array}
 
 -- a step by which the hand does not leave, takes no lock, and adds no entry
 pub record IsQuiet (d : Action) : Type 0 where
@@ -90,3 +101,85 @@ is_missing b start h g key p q empty may =
       gap_absent (opening_of b) may.moment empty (valid_at b may.moment (known h) on may.valid)
           (built_at may.moment (known h) on may.built) key g may.own may.absent,
     )
+
+-- ---- the gap that was found ----
+
+-- behind the load of the phase
+pub may_link : (b : Board) (start h n : Hand) (g key p q word : ℕ) →
+    (found : HasFoundGap b start h g key p q) → (m : Makes b h (LoadPhase g word) n) →
+    MayLinkIn b start n g key p q
+may_link b start h n g key p q word found m =
+    let at = found.group_of in
+    let seen = group_seen b start h n g key word at m in
+    let gap = found.gap in
+    record {
+      began = at.began;
+      search = seen.search;
+      own = at.own;
+      number = seen.number;
+      within = seen.within;
+      since = (is_in b start n g key seen).since;
+      valid = seen.valid;
+      built = seen.built;
+      no_entry = seen.no_entry;
+      moment = gap.moment;
+      moment_within = within_on start h n gap.moment gap.within
+          (goes_on b h n (LoadPhase g word) at.search.of m);
+      absent = gap.absent;
+      leads = gap.leads;
+      between = (
+        before_after b g key p h n (LoadPhase g word) tt m at.search gap.belongs.0,
+        ⊎_elim (λ (z : q ≡ 0). inl z)
+            (λ (z : (j : ℕ) × (role (opening_of b) q (known h) ≡ InBuffer g j) × (key < j)).
+            inr (
+              z.0,
+              still_row b h n (LoadPhase g word) at.search.of m at.search.reading.caller tt g z.0 q
+                  at.search.stands z.1,
+              z.2,
+            ))
+            gap.belongs.1,
+      );
+      seen = seen_open b start h n g key word at m;
+    }
+
+-- ---- what others do until the row is linked ----
+
+only_inside : (c : ℕ) (newer : Execution) → OnlyStores c newer → StaysInside c newer
+only_inside c [] only = tt
+only_inside c (e ∷ newer) only =
+    ((λ own. stores_inside e.action (only.0 own)), only_inside c newer only.1)
+  where
+    stores_inside : (d : Action) → IsPrivateStore d → IsNoCrossing d
+    stores_inside (StorePrivate place part value) is = tt
+    stores_inside (Enter n) is = absurd is
+    stores_inside (Leave n) is = absurd is
+    stores_inside d is = tt
+
+-- the key belongs there as long as it has no row
+pub belongs_until : (b : Board) (start h : Hand) (g key p q : ℕ) → OpensEmpty b →
+    MayLinkIn b start h g key p q → BelongsUntilLinked (opening_of b) h.number g key (known h)
+belongs_until b start h g key p q empty may newer valid only gap =
+    let o = opening_of b in
+    let stay = only_inside h.number newer only in
+    link_open o h.number g key may.search.reading.caller newer [] (known h) valid tt stay
+    may.search.stands (((groups_as_opened o (known h) may.built).0 key).0 ∙ may.own)
+    (λ a is. no_array o (known h) empty may.valid may.built g key a is)
+    (saw_open_on h.number g newer (known h) stay may.seen) gap
+
+-- so the filled row may be linked
+pub can_insert : (b : Board) (start h : Hand) (g key p q place : ℕ) → OpensEmpty b →
+    MayLinkIn b start h g key p q → Holds (opening_of b) h.number place (known h) →
+    word (opening_of b) (known h) (PlaceWord place part.Key) ≡ key →
+    word (opening_of b) (known h) (PlaceWord place part.State)
+    ≡ state_word (Unlocked (first_version (opening_of b)) false
+    (word (opening_of b) (known h) (PlaceWord place part.Value))) →
+    CanInsert (opening_of b) h.number g place p q (known h)
+can_insert b start h g key p q place empty may held is new =
+    let o = opening_of b in
+    record {
+      filled = record { held = held; new_word = new; link_word = refl };
+      between = subst (λ (z : ℕ). BelongsBetween o g z p q (known h)) (sym is) may.between;
+      permission = inl may.seen;
+      belongs = subst (λ (z : ℕ). BelongsUntilLinked o h.number g z (known h)) (sym is)
+          (belongs_until b start h g key p q empty may);
+    }
