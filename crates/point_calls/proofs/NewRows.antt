@@ -3,6 +3,13 @@ use Rattle.std.proofs.Common.{◌≡◌, ℕ, ◌<◌, inl, inr, ⊎_elim, true,
 use Rattle.std.proofs.Common.{◌∙◌, subst}
 use Rattle.word_layout.specs.declared.places.Part.TheVariants as part
 use Rattle.word_layout.specs.Words.{PlaceWord}
+use Rattle.std.proofs.Common.{Option, length}
+use Rattle.map_model.specs.declared.entries.Change.{Change}
+use Rattle.map_model.specs.declared.entries.Entry.TheVariants.{Made}
+use Rattle.map_model.specs.Logs.{Log}
+use Rattle.index_machine.specs.LivePlaces.{history}
+use Rattle.index_rule.specs.Moments.{AddsChange}
+use Rattle.row_arena.specs.Taking.{Fills, first_state}
 use Rattle.index_machine.specs.declared.events.Action.{Action}
 use Rattle.index_machine.specs.declared.events.Action.TheVariants.{Enter, Leave, LoadPhase, StorePrivate}
 use Rattle.index_machine.specs.Forms.{Unlocked, state_word}
@@ -24,7 +31,7 @@ use Rattle.index_rule.specs.declared.board.Board.{Board}
 use Rattle.index_rule.specs.declared.hand.Hand.{Hand}
 use Rattle.index_rule.specs.Hands.{IsHandOf, Makes, MakesAll, known, opening_of}
 use Rattle.index_rule.proofs.BufferStepping.{still_row}
-use Rattle.index_rule.proofs.Calls.{begun_on, goes_on, is_within, up_to}
+use Rattle.index_rule.proofs.Calls.{HasBegun, begun_on, goes_on, is_within, up_to}
 use Rattle.index_rule.proofs.RecordReading.{KeepsLog, no_entry}
 use Rattle.index_rule.proofs.RecordStepping.{goes_on_inside, now, since}
 use Rattle.index_rule.proofs.Stepping.{built_known, known_is, valid_known}
@@ -183,3 +190,36 @@ can_insert b start h g key p q place empty may held is new =
       belongs = subst (λ (z : ℕ). BelongsUntilLinked o h.number g z (known h)) (sym is)
           (belongs_until b start h g key p q empty may);
     }
+
+-- behind the filling of its row
+pub may_filled : (b : Board) (start h k : Hand) (g key p q place value : ℕ) →
+    Fills b h place key value k → MayLinkIn b start h g key p q → MayLinkIn b start k g key p q
+may_filled b start h k g key p q place value fills may =
+    let all = fills.steps in
+    let one = all.1.0 in
+    let first : Makes b h (StorePrivate place part.Key key) one =
+    subst (λ (z : Hand). Makes b z (StorePrivate place part.Key key) one) all.1.1.1 all.1.1.2 in
+    may_on b start all.0 k g key p q (StorePrivate place part.State (first_state (opening_of b)))
+    (record { none = tt; free = λ z. z; keeps = λ o t log. refl }) all.2
+    (may_on b start one all.0 g key p q (StorePrivate place part.Value value)
+    (record { none = tt; free = λ z. z; keeps = λ o t log. refl }) all.1.2
+    (may_on b start h one g key p q (StorePrivate place part.Key key)
+    (record { none = tt; free = λ z. z; keeps = λ o t log. refl }) first may))
+
+-- the change that the link added is one of the call
+pub adds_there : (b : Board) (start h k : Hand) (g key p q : ℕ) (change same : Change)
+    (old : Option ℕ) → MayLinkIn b start h g key p q → change ≡ same →
+    AddsChange b h change old k → AddsChange b start same old k
+adds_there b start h k g key p q change same old may is adds =
+    let moment : Execution = adds.0 in
+    let w = may.within in
+    let here : Continues (known h) moment =
+    continues_trans (known h) (adds.1.1 ++ known h) moment (adds.1.1, refl) adds.1.4 in
+    let begun : HasBegun start moment =
+    begun_on start (known h) moment (w.0, w.1, w.2, w.3) here in
+    subst (λ (z : Change). AddsChange b start z old k) is (
+      moment,
+      is_within start k moment begun adds.1.5,
+      adds.2,
+      adds.3 ∙ ap (λ (l : Log). Made (length (history moment)) change old ∷ l) may.no_entry,
+    )
