@@ -3,7 +3,12 @@ use Rattle.std.proofs.Common.{◌≡◌, ℕ, ◌<◌, inl, inr, ⊎_elim, true,
 use Rattle.std.proofs.Common.{◌∙◌, subst}
 use Rattle.word_layout.specs.declared.places.Part.TheVariants as part
 use Rattle.word_layout.specs.Words.{PlaceWord}
-use Rattle.std.proofs.Common.{Option, length}
+use Rattle.std.proofs.Common.{Option, length, ◌≢◌}
+use mathlib.Core.Logic.{dite}
+use native.Mathlib.Decide.{ℕ_discrete}
+use Rattle.map_model.specs.Map.{key_of}
+use Rattle.index_machine.proofs.Placing.{placed}
+use Rattle.index_machine.specs.Sections.{IsCaller}
 use Rattle.map_model.specs.declared.entries.Change.{Change}
 use Rattle.map_model.specs.declared.entries.Entry.TheVariants.{Made}
 use Rattle.map_model.specs.Logs.{Log}
@@ -11,7 +16,8 @@ use Rattle.index_machine.specs.LivePlaces.{history}
 use Rattle.index_rule.specs.Moments.{AddsChange}
 use Rattle.row_arena.specs.Taking.{Fills, first_state}
 use Rattle.index_machine.specs.declared.events.Action.{Action}
-use Rattle.index_machine.specs.declared.events.Action.TheVariants.{Enter, Leave, LoadPhase, StorePrivate}
+use Rattle.index_machine.specs.declared.events.Action.TheVariants.{Enter, Leave, LinkRow, LoadPhase}
+use Rattle.index_machine.specs.declared.events.Action.TheVariants.{StorePrivate}
 use Rattle.index_machine.specs.Forms.{Unlocked, state_word}
 use Rattle.index_machine.specs.Places.{first_version}
 use Rattle.index_machine.specs.Words.{word}
@@ -22,9 +28,9 @@ use Rattle.delta_buffer.specs.Searching.{BelongsBetween}
 use Rattle.point_calls.proofs.RowPutting.{group_seen, is_in, seen_open}
 use Rattle.index_machine.specs.Execution.{Continues, Execution, event}
 use Rattle.index_machine.specs.Reaching.{saw_open}
-use Rattle.index_machine.specs.Rows.{Holds, InBuffer, role}
+use Rattle.index_machine.specs.Rows.{HeldBy, Holds, HoldsNone, InBuffer, role}
 use Rattle.index_machine.specs.Sections.{IsNoCrossing, StaysInside}
-use Rattle.index_machine.proofs.Executions.{continues_same, continues_trans}
+use Rattle.index_machine.proofs.Executions.{choice-other, choice-same, continues_same, continues_trans}
 use Rattle.index_machine.proofs.Holders.{TakesLock}
 use Rattle.machine_readers.proofs.ReadSections.{saw_open_on}
 use Rattle.index_rule.specs.declared.board.Board.{Board}
@@ -34,7 +40,7 @@ use Rattle.index_rule.proofs.BufferStepping.{still_row}
 use Rattle.index_rule.proofs.Calls.{HasBegun, begun_on, goes_on, is_within, up_to}
 use Rattle.index_rule.proofs.RecordReading.{KeepsLog, no_entry}
 use Rattle.index_rule.proofs.RecordStepping.{goes_on_inside, now, since}
-use Rattle.index_rule.proofs.Stepping.{built_known, known_is, valid_known}
+use Rattle.index_rule.proofs.Stepping.{built_known, known_is, valid_after, valid_known}
 use Rattle.delta_buffer.proofs.Stepping.{before_after, search_after}
 use Rattle.point_calls.specs.PointCalls.{MakesIn, OpensEmpty}
 use Rattle.point_calls.specs.Putting.{HasFoundGap, IsMissing, MayLinkIn}
@@ -223,3 +229,22 @@ adds_there b start h k g key p q change same old may is adds =
       adds.2,
       adds.3 ∙ ap (λ (l : Log). Made (length (history moment)) change old ∷ l) may.no_entry,
     )
+
+-- a hand that linked its row holds none
+pub holds_none_linked : (b : Board) (h k : Hand) (g place p q : ℕ) (d : Change) → IsHandOf b h →
+    IsCaller (opening_of b) h.number → Makes b h (LinkRow g place d p q) k →
+    HoldsNone (opening_of b) k.number (known k)
+holds_none_linked b h k g place p q d of caller m =
+    let o = opening_of b in
+    let t : Execution = m.acts.0 ++ known h in
+    let valid = valid_after b h k (LinkRow g place d p q) of m in
+    now b h k (LinkRow g place d p q) of m (λ z u. (x : ℕ) → role o x u ≡ HeldBy z → ⊥)
+    (λ x held. dite (ℕ_discrete place x)
+    (λ (here : place ≡ x). in_buffer
+    (sym (choice-same place x (InBuffer g (key_of d)) (role o x t) here) ∙ held))
+    (λ (apart : place ≢ x). absurd (apart
+    ((placed o t valid.1).one h.number place x caller valid.0.mine
+    (sym (choice-other place x (InBuffer g (key_of d)) (role o x t) apart) ∙ held)))))
+  where
+    in_buffer : {group j hand : ℕ} → InBuffer group j ≡ HeldBy hand → ⊥
+    in_buffer e = absurd (let bad = e in cc)

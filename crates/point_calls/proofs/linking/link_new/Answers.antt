@@ -1,4 +1,4 @@
-use Rattle.std.proofs.Common.{◌≡◌, ℕ, ◌<◌, ◌^◌, None, inl, inr, ⊎_elim, refl, sym, ap, ◌∙◌, subst, arith}
+use Rattle.std.proofs.Common.{◌≡◌, ℕ, ◌<◌, ◌^◌, None, inl, inr, ⊎_elim, Option, refl, sym, ap, ◌∙◌, subst, arith}
 use Rattle.map_model.specs.declared.entries.Change.TheVariants.{Put}
 use Rattle.word_layout.specs.declared.places.Part.TheVariants.{Link}
 use Rattle.index_machine.specs.declared.events.Action.TheVariants.{FailLink, LoadPhase, StorePrivate}
@@ -11,8 +11,9 @@ use Rattle.index_rule.proofs.RecordSteps.{place_below}
 use Rattle.index_rule.proofs.Standing.{keyed_place}
 use Rattle.delta_buffer.specs.Inserting.{CanInsert, change_of}
 use Rattle.index_rule.specs.declared.hand.Hand.{Hand}
+use Rattle.point_calls.specs.PointCalls.{HasSpare}
 use Rattle.point_calls.proofs.Knowing.{spare_on, within_on}
-use Rattle.point_calls.proofs.NewRows.{adds_there, can_insert, made_there, may_filled, may_link, may_on}
+use Rattle.point_calls.proofs.NewRows.{adds_there, can_insert, holds_none_linked, made_there, may_filled, may_link, may_on}
 use Rattle.point_calls.proofs.RowPutting.{is_open, sees_phase}
 use Rattle.point_calls.proofs.linking.link_new.Goals as goal
 
@@ -158,3 +159,28 @@ returns-in-Raced-clause-tells c =
         differ = s.1;
       })),
     )
+
+pub returns-in-Done-clause-spare : goal.returns-in-Done-clause-spare
+returns-in-Done-clause-spare c =
+    let b = c.args.board.now in
+    let h = c.args.start.now.value in
+    let r = c.own_row.new.hand in
+    let k = c.fill.new.hand in
+    let g : ℕ = c.args.group in
+    let key : ℕ = c.args.key in
+    let p : ℕ = c.args.before in
+    let q : ℕ = c.args.next in
+    let place : ℕ = place_of_private c.in-Ok.row in
+    let filled = c.fill.ensures.filled in
+    let may = may_filled b h r k g key p q place c.args.value filled c.own_row.ensures.may in
+    let k2 = c.insert.new.hand in
+    let all = c.in-Done.ensures.steps in
+    let row : ℕ = place_of_private c.fill.new.row in
+    let mid = all.0 in
+    let stores : Makes b k (StorePrivate row Link q) mid =
+    subst (λ (z : Hand). Makes b z (StorePrivate row Link q) mid) all.1.1 all.1.2 in
+    let may2 = may_on b h k mid g key p q (StorePrivate row Link q)
+    (record { none = tt; free = λ z. z; keeps = λ o t log. refl }) stores may in
+    subst (λ (z : Option PrivateRow). HasSpare b k2 z) (sym c.own_row.ensures.gone)
+    (holds_none_linked b mid k2 g row p q (change_of b k row) may2.search.of
+    may2.search.reading.caller all.2)
