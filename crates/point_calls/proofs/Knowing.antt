@@ -1,5 +1,5 @@
 -- What a hand knows within a call, after each of its steps.
-use Rattle.std.proofs.Common.{◌≡◌, ◌≢◌, ℕ, Option, Some, None, [], ◌∷◌, ◌++◌, refl, sym, ap, ◌∙◌, subst}
+use Rattle.std.proofs.Common.{◌≡◌, ℕ, Option, Some, None, [], ◌∷◌, ◌++◌, refl, sym, ap, ◌∙◌, subst}
 use Rattle.std.proofs.Common.{List}
 use Rattle.map_model.specs.declared.entries.Change.{Change}
 use Rattle.map_model.specs.declared.entries.Entry.TheVariants.{Look, Made}
@@ -22,11 +22,11 @@ use Rattle.index_rule.specs.declared.hand.Hand.{Hand}
 use Rattle.index_rule.specs.declared.rows.PrivateRow.{PrivateRow}
 use Rattle.index_rule.specs.declared.view.View.{View}
 use Rattle.index_rule.specs.Built.{AreBuilt}
-use Rattle.index_rule.specs.Hands.{IsHandOf, Makes, MakesAll, known, opening_of, view}
+use Rattle.index_rule.specs.Hands.{IsHandOf, Makes, MakesAll, known, opening_of}
 use Rattle.index_rule.specs.Looks.{AddsLook}
 use Rattle.index_rule.specs.Moments.{AddsChange, AddsNoEntry, IsBetween, IsWithin}
 use Rattle.index_rule.specs.OwnRows.{place_of_private}
-use Rattle.index_rule.proofs.Calls.{HasBegun, begins, begun_on, from_there, goes_on, up_to}
+use Rattle.index_rule.proofs.Calls.{HasBegun, begins, begun_on, goes_on, up_to}
 use Rattle.index_rule.proofs.Logging.{built_before}
 use Rattle.index_rule.proofs.RecordStepping.{still_inside}
 use Rattle.index_rule.proofs.Stepping.{built_known, known_is, still_holds, still_holds_no_lock}
@@ -135,13 +135,12 @@ walk_since b g start h (d ∷ actions) k are all i =
 -- a step that was made after the call began is one of the call
 pub made_in : (b : Board) (start h k : Hand) (d : Action) → IsIn b start h → Makes b h d k →
     MakesIn start d k
-made_in b start h k d i m =
-    (
-      m.acts.0 ++ known h,
-      continues_trans (known start) (known h) (m.acts.0 ++ known h) i.since (up_to b h k d i.of m),
-      subst (λ (z : ℕ). Continues (event z d ∷ m.acts.0 ++ known h) (known k)) i.number
-          ([], sym (known_is b h k d i.of m)),
-    )
+made_in b start h k d i m = (
+  m.acts.0 ++ known h,
+  continues_trans (known start) (known h) (m.acts.0 ++ known h) i.since (up_to b h k d i.of m),
+  subst (λ (z : ℕ). Continues (event z d ∷ m.acts.0 ++ known h) (known k)) i.number
+      ([], sym (known_is b h k d i.of m)),
+)
 
 -- and stays one
 pub made_on : (start h k : Hand) (d : Action) → MakesIn start d h → Continues (known h) (known k) →
@@ -154,15 +153,14 @@ made_on start h k d m on =
 -- a moment of the call stays one as the call goes on
 pub within_on : (start h k : Hand) (moment : Execution) → IsWithin start h moment →
     Continues (known h) (known k) → IsWithin start k moment
-within_on start h k moment w on =
-    (
-      w.0,
-      w.1,
-      w.2,
-      continues_trans (event start.number w.0 ∷ w.1 ++ known start) (known h) (known k) w.3 on,
-      w.4,
-      continues_trans moment (known h) (known k) w.5 on,
-    )
+within_on start h k moment w on = (
+  w.0,
+  w.1,
+  w.2,
+  continues_trans (event start.number w.0 ∷ w.1 ++ known start) (known h) (known k) w.3 on,
+  w.4,
+  continues_trans moment (known h) (known k) w.5 on,
+)
 
 -- a moment of a later part of the call is one of the call
 pub within_whole : (b : Board) (start h k : Hand) (moment : Execution) → IsIn b start h →

@@ -1,6 +1,6 @@
 -- A key that the walk missed, or whose row is a tombstone, was not in the map then.
-use Rattle.std.proofs.Common.{◌≡◌, ℕ, ◌≤◌, inl, inr, ⊎_elim, Option, Some, None, [], ◌∷◌}
-use Rattle.std.proofs.Common.{false, refl, sym, ap, ◌∙◌, subst}
+use Rattle.std.proofs.Common.{◌≡◌, ℕ, ◌≤◌, inl, ⊎_elim, Some, None, []}
+use Rattle.std.proofs.Common.{false, sym, ap, ◌∙◌, subst}
 use Rattle.map_model.specs.Map.{Map, look}
 use Rattle.word_layout.specs.Layout.{limits_of}
 use Rattle.word_layout.specs.declared.phase.Phase.TheVariants.{Open, Opened}
@@ -8,16 +8,13 @@ use Rattle.index_machine.specs.declared.opening.Opening.{Opening}
 use Rattle.index_machine.specs.declared.events.Action.TheVariants.{LoadRoot, LoadSlotGroup}
 use Rattle.index_machine.specs.Conditions.{Valid}
 use Rattle.index_machine.specs.Execution.{Execution}
-use Rattle.index_machine.specs.Groups.{phase}
 use Rattle.index_machine.specs.LivePlaces.{value_in_map}
 use Rattle.index_machine.specs.OpeningRows.{opening_row, row_from}
 use Rattle.index_machine.specs.Openings.{greatest_key, opening_group}
-use Rattle.index_machine.specs.Groups.{phase}
 use Rattle.index_machine.specs.Represents.{has_stale_phase}
 use Rattle.index_machine.specs.Rows.{InArray, InBuffer, role, role_key}
 use Rattle.index_machine.proofs.OpeningRows.{opening_role-array}
 use Rattle.machine_readers.specs.Buffers.{rows}
-use Rattle.machine_readers.specs.Redirects.{HasNoValue}
 use Rattle.machine_readers.proofs.FromOpening.{gaps, not_found}
 use Rattle.machine_readers.proofs.ReachedForms.{keyed_in_group}
 use Rattle.index_rule.specs.declared.board.Board.{Board}

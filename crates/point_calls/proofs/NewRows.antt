@@ -1,5 +1,5 @@
 -- What a caller that is to link a new row knows after each of its steps.
-use Rattle.std.proofs.Common.{◌≡◌, ℕ, ◌<◌, inl, inr, ⊎_elim, true, false, None, List, [], ◌∷◌, ◌++◌, refl, sym, ap}
+use Rattle.std.proofs.Common.{◌≡◌, ℕ, ◌<◌, inl, inr, ⊎_elim, true, false, [], ◌∷◌, ◌++◌, refl, sym, ap}
 use Rattle.std.proofs.Common.{◌∙◌, subst}
 use Rattle.word_layout.specs.declared.places.Part.TheVariants as part
 use Rattle.word_layout.specs.Words.{PlaceWord}
@@ -35,7 +35,7 @@ use Rattle.index_machine.proofs.Holders.{TakesLock}
 use Rattle.machine_readers.proofs.ReadSections.{saw_open_on}
 use Rattle.index_rule.specs.declared.board.Board.{Board}
 use Rattle.index_rule.specs.declared.hand.Hand.{Hand}
-use Rattle.index_rule.specs.Hands.{IsHandOf, Makes, MakesAll, known, opening_of}
+use Rattle.index_rule.specs.Hands.{IsHandOf, Makes, known, opening_of}
 use Rattle.index_rule.proofs.BufferStepping.{still_row}
 use Rattle.index_rule.proofs.Calls.{HasBegun, begun_on, goes_on, is_within, up_to}
 use Rattle.index_rule.proofs.RecordReading.{KeepsLog, no_entry}

@@ -1,18 +1,17 @@
 -- How a caller overwrites or revives the row that it found.
-use Rattle.std.proofs.Common.{◌≡◌, ◌≢◌, ℕ, ◌++◌, inl, inr, Bool, true, false, cond, Option, Some, None, [], ◌∷◌}
+use Rattle.std.proofs.Common.{◌≡◌, ◌≢◌, ℕ, ◌++◌, inl, Bool, true, false, cond, Option, Some, None, [], ◌∷◌}
 use Rattle.std.proofs.Common.{eq-eqb, refl, sym, ap, ◌∙◌, subst, arith}
 use Rattle.std.specs.Prelude.{◌==◌, ◌&&◌}
-use Rattle.map_model.specs.declared.entries.Change.TheVariants.{Put}
 use Rattle.word_layout.specs.declared.phase.Phase.TheVariants.{Open}
 use Rattle.word_layout.specs.declared.phase.Phase.{Phase}
 use Rattle.word_layout.specs.Phase.{word_of_phase}
 use Rattle.index_machine.specs.declared.events.Action.{Action}
-use Rattle.index_machine.specs.declared.events.Action.TheVariants.{FailLock, LoadPhase, LoadState}
+use Rattle.index_machine.specs.declared.events.Action.TheVariants.{LoadPhase, LoadState}
 use Rattle.index_machine.specs.declared.events.Action.TheVariants.{Lock, StoreValue, Unlock}
 use Rattle.index_machine.specs.Openings.{opening_group}
 use Rattle.index_machine.specs.Reaching.{saw_open, saw_open_after}
 use Rattle.index_machine.specs.Represents.{has_stale_phase}
-use Rattle.index_machine.specs.Rows.{role, role_key}
+use Rattle.index_machine.specs.Rows.{role_key}
 use Rattle.index_machine.specs.Sections.{IsNoCrossing}
 use Rattle.index_machine.proofs.Executions.{continues_same, continues_trans, own_step}
 use Rattle.index_machine.proofs.Holders.{TakesLock}
@@ -182,8 +181,8 @@ module _ (b : Board) (start n : Hand) (g key place : ℕ) (at : IsInGroupOf b st
   in_revived k value (Some old) s = absurd s
   in_revived k value None s =
       in_all b start n (Unlock place false (put_at b n place value) s.1 ∷ StoreValue place value
-    ∷ Lock place s.0 ∷ LoadState place s.0 ∷ []) k (tt, (tt, (tt, (tt, tt)))) s.3
-    (is_in b start n g key at)
+      ∷ Lock place s.0 ∷ LoadState place s.0 ∷ []) k (tt, (tt, (tt, (tt, tt)))) s.3
+      (is_in b start n g key at)
 
   -- it was alive
   pub was_alive : (h k : Hand) (first second : ℕ) → Makes b n (LoadState place second) k →

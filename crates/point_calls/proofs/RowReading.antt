@@ -1,7 +1,7 @@
 -- What a read of a row tells of its key, within a call.
-use Rattle.std.proofs.Common.{◌≡◌, ◌≢◌, ℕ, inl, inr, true, Some, None, refl, sym, ap, ◌∙◌, subst}
+use Rattle.std.proofs.Common.{◌≡◌, ◌≢◌, ℕ, inr, Some, sym, ap, ◌∙◌, subst}
 use Rattle.index_machine.specs.declared.events.Action.TheVariants.{LoadState, LoadValue}
-use Rattle.index_machine.specs.Execution.{Continues, Execution}
+use Rattle.index_machine.specs.Execution.{Continues}
 use Rattle.index_machine.specs.LivePlaces.{value_in_map}
 use Rattle.index_machine.specs.Places.{form}
 use Rattle.index_machine.specs.Rows.{InBuffer, role, role_key}
@@ -11,17 +11,15 @@ use Rattle.index_rule.specs.declared.board.Board.{Board}
 use Rattle.index_rule.specs.declared.hand.Hand.{Hand}
 use Rattle.index_rule.specs.Hands.{IsHandOf, Makes, known, opening_of}
 use Rattle.index_rule.specs.Looks.{MayNote}
-use Rattle.index_rule.specs.Moments.{AddsNoEntry, IsWithin}
+use Rattle.index_rule.specs.Moments.{AddsNoEntry}
 use Rattle.index_rule.specs.Records.{key_at, or_zero}
 use Rattle.index_rule.proofs.Calls.{goes_on}
 use Rattle.delta_buffer.specs.Searching.{CanSearch, IsReachedRow}
 use Rattle.delta_buffer.proofs.Stepping.{search_after}
-use Rattle.record_cell.specs.declared.answers.Read.{Read}
-use Rattle.record_cell.specs.declared.answers.Read.TheVariants as read
 use Rattle.record_cell.specs.Conditions.{IsLockedState}
 use Rattle.index_machine.specs.Sections.{IsCaller}
 use Rattle.record_cell.specs.Finding.{Finds, HasSameKey, IsReadyAt}
-use Rattle.record_cell.specs.Reads.{FindsLock, FindsNone, FindsValue, IsHeldByAnother, Reads}
+use Rattle.record_cell.specs.Reads.{FindsLock, FindsNone, FindsValue, IsHeldByAnother}
 use Rattle.record_cell.proofs.Found.{found_in_place}
 use Rattle.point_calls.specs.Lookup.{HasMissed}
 use Rattle.point_calls.specs.PointCalls.{IsOfKey, MeetsChange, MeetsLock, OpensEmpty}

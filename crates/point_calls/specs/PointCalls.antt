@@ -1,5 +1,5 @@
 -- What a call on one key needs, the entry that it adds, and what it does where it comes to no end.
-use Rattle.std.specs.Prelude.{◌≡◌, ◌≢◌, ◌⊎◌, ℕ, ◌≤◌, Option, Some, None, [], ◌∷◌, length}
+use Rattle.std.specs.Prelude.{◌≡◌, ◌≢◌, ℕ, Option, Some, None, [], ◌∷◌, length}
 use Rattle.map_model.specs.declared.entries.Entry.TheVariants.{Look}
 use Rattle.map_model.specs.Answer.{pair_at}
 use Rattle.index_machine.specs.declared.events.Action.{Action}
@@ -13,8 +13,6 @@ use Rattle.index_machine.specs.Sections.{IsReading}
 use Rattle.index_rule.specs.declared.board.Board.{Board}
 use Rattle.index_rule.specs.declared.hand.Hand.{Hand}
 use Rattle.index_rule.specs.declared.rows.PrivateRow.{PrivateRow}
-use Rattle.index_rule.specs.declared.tried.Why.{Why}
-use Rattle.index_rule.specs.declared.tried.Why.TheVariants as why
 use Rattle.index_rule.specs.Hands.{IsHandOf, known, opening_of, view}
 use Rattle.index_rule.specs.Moments.{IsWithin}
 use Rattle.index_rule.specs.OwnRows.{place_of_private}

@@ -1,5 +1,5 @@
-use Rattle.std.proofs.Common.{◌≡◌, ℕ, ◌≤◌, Option, Some, None, sym, ◌∙◌, subst, arith}
-use Rattle.index_machine.specs.Openings.{greatest_key, opening_group}
+use Rattle.std.proofs.Common.{ℕ, ◌≤◌, Option, Some, None, sym, ◌∙◌, subst, arith}
+use Rattle.index_machine.specs.Openings.{greatest_key}
 use Rattle.index_rule.specs.declared.hand.Hand.{Hand}
 use Rattle.index_rule.specs.Hands.{known, opening_of}
 use Rattle.index_rule.specs.declared.tried.Tried.{Tried}

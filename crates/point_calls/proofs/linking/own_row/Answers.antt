@@ -1,4 +1,4 @@
-use Rattle.std.proofs.Common.{◌≡◌, ℕ, refl, sym, ◌∙◌, subst}
+use Rattle.std.proofs.Common.{ℕ, refl, sym, ◌∙◌, subst}
 use Rattle.index_machine.specs.declared.events.Action.TheVariants.{FailPop, LoadFree, LoadFreeLink}
 use Rattle.index_machine.specs.declared.events.Action.TheVariants.{PopFree}
 use Rattle.index_rule.specs.declared.hand.Hand.{Hand}
@@ -58,8 +58,7 @@ returns-in-Empty-clause-answer c =
     let q : ℕ = c.args.next in
     let s = c.in-Empty.ensures.steps in
     let loads : Makes b n (LoadFree 0) k = subst (λ (z : Hand). Makes b z (LoadFree 0) k) s.1 s.2 in
-    let may = may_on b h n k g key p q (LoadFree 0) (record { none = tt; free = λ z. z; keeps = λ o t log. refl }) loads c.requires.may in
-    (
+    let may = may_on b h n k g key p q (LoadFree 0) (record { none = tt; free = λ z. z; keeps = λ o t log. refl }) loads c.requires.may in (
       sym c.take.ensures.value ∙ c.in-None.is,
       c.in-Empty.ensures.holds,
       (
@@ -107,8 +106,7 @@ returns-in-Raced-clause-answer c =
     let loads : Makes b n (LoadFree x) one =
     subst (λ (z : Hand). Makes b z (LoadFree x) one) all.1.1.1 all.1.1.2 in
     let may1 = may_on b h n one g key p q (LoadFree x) (record { none = tt; free = λ z. z; keeps = λ o t log. refl }) loads c.requires.may in
-    let may2 = may_on b h one last g key p q (LoadFreeLink x s.2.0) (record { none = tt; free = λ z. z; keeps = λ o t log. refl }) all.1.2 may1 in
-    (
+    let may2 = may_on b h one last g key p q (LoadFreeLink x s.2.0) (record { none = tt; free = λ z. z; keeps = λ o t log. refl }) all.1.2 may1 in (
       c.in-Raced.ensures.holds,
       record {
         is_address = refl;

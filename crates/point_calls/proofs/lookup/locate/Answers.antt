@@ -1,4 +1,4 @@
-use Rattle.std.proofs.Common.{◌≡◌, inl, arith}
+use Rattle.std.proofs.Common.{inl, arith}
 use Rattle.point_calls.proofs.Locating.{comes_to, group_is, in_located, reading_rooted, sees_slot}
 use Rattle.point_calls.proofs.lookup.locate.Goals as goal
 

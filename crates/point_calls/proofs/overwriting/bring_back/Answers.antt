@@ -1,14 +1,14 @@
-use Rattle.std.proofs.Common.{◌≡◌, ℕ, inl, inr, true, false, sym, refl, ◌∙◌, subst}
+use Rattle.std.proofs.Common.{ℕ, inl, true, sym, ◌∙◌, subst}
 use Rattle.map_model.specs.declared.entries.Change.TheVariants.{Put}
-use Rattle.index_machine.specs.declared.events.Action.TheVariants.{FailLock, LoadPhase, LoadState}
+use Rattle.index_machine.specs.declared.events.Action.TheVariants.{FailLock, LoadState}
 use Rattle.index_rule.specs.declared.hand.Hand.{Hand}
-use Rattle.index_rule.specs.Hands.{Makes, known, opening_of}
+use Rattle.index_rule.specs.Hands.{Makes}
 use Rattle.record_cell.specs.Writes.{put_at}
 use Rattle.point_calls.specs.Changing.{LosesLock}
 use Rattle.point_calls.proofs.Knowing.{adds_whole, in_step}
-use Rattle.point_calls.proofs.RowChanging.{in_done, in_failed, loses_lock, meets_last, of_key_below, put_is}
+use Rattle.point_calls.proofs.RowChanging.{in_failed, loses_lock, meets_last, of_key_below, put_is}
 use Rattle.point_calls.proofs.RowReading.{in_found, meets_lock, of_row, ready_row}
-use Rattle.point_calls.proofs.RowPutting.{found_stone, group_seen, in_revived, is_in, may_revive}
+use Rattle.point_calls.proofs.RowPutting.{group_seen, in_revived, is_in, may_revive}
 use Rattle.point_calls.proofs.RowPutting.{row_seen, sees_phase, was_alive}
 use Rattle.point_calls.proofs.overwriting.bring_back.Goals as goal
 
@@ -274,8 +274,7 @@ returns-in-Raced-clause-tells c =
     let loads : Makes b n (LoadState place x) q =
     subst (λ (z : Hand). Makes b z (LoadState place x) q) s.2.1.1 s.2.1.2 in
     let fails : Makes b q (FailLock p x y) k =
-    subst (λ (z : ℕ). Makes b q (FailLock z x y) k) (sym s.0) s.2.2 in
-    (
+    subst (λ (z : ℕ). Makes b q (FailLock z x y) k) (sym s.0) s.2.2 in (
       t.0 ∙ none,
       inl (subst (λ (z : ℕ). LosesLock b key h z x y k) (sym c.state_word.ensures)
           (loses_lock b h n g key place i can row k q p x y (inl (s.0, loads)) fails s.3 t.1)),

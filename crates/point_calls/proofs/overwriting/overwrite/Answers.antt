@@ -1,15 +1,11 @@
-use Rattle.std.proofs.Common.{◌≡◌, ℕ, inl, inr, true, false, sym, refl, ◌∙◌, subst}
+use Rattle.std.proofs.Common.{ℕ, inl, false, sym, ◌∙◌, subst}
 use Rattle.map_model.specs.declared.entries.Change.TheVariants.{Put}
-use Rattle.index_machine.specs.declared.events.Action.TheVariants.{FailLock, LoadPhase, LoadState}
-use Rattle.index_rule.specs.declared.hand.Hand.{Hand}
-use Rattle.index_rule.specs.Hands.{Makes, known, opening_of}
 use Rattle.record_cell.specs.Writes.{put_at}
 use Rattle.point_calls.specs.Changing.{LosesLock}
-use Rattle.point_calls.proofs.Knowing.{adds_whole, in_step}
+use Rattle.point_calls.proofs.Knowing.{adds_whole}
 use Rattle.point_calls.proofs.RowChanging.{in_done, in_failed, loses_lock, meets_last, of_key_below, put_is}
 use Rattle.point_calls.proofs.RowReading.{in_found, meets_lock, of_row, ready_row}
-use Rattle.point_calls.proofs.RowPutting.{found_stone, group_seen, in_revived, is_in, may_revive}
-use Rattle.point_calls.proofs.RowPutting.{row_seen, sees_phase, was_alive}
+use Rattle.point_calls.proofs.RowPutting.{found_stone, is_in}
 use Rattle.point_calls.proofs.overwriting.overwrite.Goals as goal
 
 pub update-requires : goal.update-requires

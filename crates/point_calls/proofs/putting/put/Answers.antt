@@ -1,9 +1,8 @@
-use Rattle.std.proofs.Common.{◌≡◌, ℕ, ◌≤◌, Option, sym, ◌∙◌, subst, arith}
+use Rattle.std.proofs.Common.{ℕ, ◌≤◌, sym, ◌∙◌, subst, arith}
 use Rattle.index_machine.specs.Openings.{greatest_key}
 use Rattle.index_rule.specs.declared.hand.Hand.{Hand}
-use Rattle.index_rule.specs.declared.tried.Tried.{Tried}
-use Rattle.point_calls.specs.Putting.{HasFoundGap, HasFoundRow, PutTells}
-use Rattle.point_calls.proofs.Knowing.{in_walk, spare_on}
+use Rattle.point_calls.specs.Putting.{HasFoundGap, HasFoundRow}
+use Rattle.point_calls.proofs.Knowing.{in_walk}
 use Rattle.point_calls.proofs.Missing.{group_opened, in_comes}
 use Rattle.point_calls.proofs.RowPutting.{found_gap, found_group}
 use Rattle.point_calls.proofs.putting.put.Goals as goal
