@@ -1,3 +1,4 @@
 pub mod Links
 pub mod Stepping
 pub mod Linking
+pub mod Carrying

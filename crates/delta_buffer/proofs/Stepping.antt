@@ -35,7 +35,7 @@ use Rattle.delta_buffer.proofs.Links.{rise_left, rises, row_some}
 
 -- ---- the loads of a walk ----
 
-no_crossing : (g : ℕ) (d : Action) → IsWalkOf g d → IsNoCrossing d
+pub no_crossing : (g : ℕ) (d : Action) → IsWalkOf g d → IsNoCrossing d
 no_crossing g (LoadHead h n) is = tt
 no_crossing g (LoadLink h p n) is = tt
 no_crossing g (LoadKey p n) is = tt

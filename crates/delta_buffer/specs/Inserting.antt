@@ -1,5 +1,5 @@
 -- What linking a row into a buffer needs and does.
-use Rattle.std.specs.Prelude.{◌≡◌, ◌≢◌, ℕ, None, [], ◌∷◌, ◌++◌}
+use Rattle.std.specs.Prelude.{◌≡◌, ◌≢◌, ◌⊎◌, ℕ, None, [], ◌∷◌, ◌++◌}
 use Rattle.map_model.specs.declared.entries.Change.{Change}
 use Rattle.map_model.specs.Map.{look}
 use Rattle.word_layout.specs.declared.places.Part.TheVariants.{Link}
@@ -12,6 +12,7 @@ use Rattle.index_machine.specs.Execution.{Execution}
 use Rattle.index_machine.specs.LivePlaces.{live_place}
 use Rattle.index_machine.specs.Permissions.{IsBufferFor, MayInsertInto}
 use Rattle.index_machine.specs.Rows.{InBuffer, role}
+use Rattle.index_machine.specs.Sections.{IsCaller}
 use Rattle.index_machine.specs.Words.{word}
 use Rattle.machine_readers.specs.Buffers.{rows}
 use Rattle.index_rule.specs.declared.board.Board.{Board}
@@ -22,6 +23,7 @@ use Rattle.index_rule.specs.Buffers.{IsFilled, inserted_by, key_in}
 use Rattle.index_rule.specs.Hands.{MakesAll, known, opening_of}
 use Rattle.index_rule.specs.Moments.{AddsChange, AddsNoEntry}
 use Rattle.index_rule.specs.OwnRows.{place_of_private}
+use Rattle.record_cell.specs.Reviving.{HasNoneBehindOpened, HasNoneWhereSeenOpen}
 use Rattle.delta_buffer.specs.Searching.{BelongsBetween}
 
 -- ---- what it needs ----
@@ -82,3 +84,13 @@ InsertTells b h group place next linked.Done k =
     ≡ InBuffer group (key_in (opening_of b) place (known h)))
 InsertTells b h group place next (linked.Raced row found) k =
     AddsNoEntry h k × KeepsRow b h place next k
+
+-- ---- the law ----
+
+-- a key of which a caller knows in its read section that it has no value elsewhere, as for a revival,
+-- belongs into the buffer until it is linked
+abbrev pub KeysWithoutAValueBelong : Type 0
+KeysWithoutAValueBelong =
+    (o : Opening) (t : Execution) → Valid o t → (hand key group : ℕ) → IsCaller o hand →
+    HasNoneWhereSeenOpen o hand key group t ⊎ HasNoneBehindOpened o hand key group t →
+    BelongsUntilLinked o hand group key t
