@@ -1,6 +1,7 @@
 pub mod BuiltLaws
 pub mod Logging
 pub mod Steps
+pub mod Moments
 pub mod Looking
 pub mod Seats
 pub mod Telling
@@ -22,4 +23,5 @@ pub mod Calls
 pub mod RecordStepping
 pub mod RecordReading
 pub mod RootStepping
+pub mod BufferStepping
 pub mod Heeding

@@ -1,6 +1,6 @@
 -- A step that writes a look keeps the rule, and makes no event.
-use Rattle.std.proofs.Common.{◌≡◌, ℕ, ◌≤◌, Option, Some, [], ◌∷◌, ◌++◌, length}
-use Rattle.std.proofs.Common.{length-append, arith, refl, sym, ap, ◌∙◌, subst}
+use Rattle.std.proofs.Common.{◌≡◌, ℕ, ◌≤◌, Option, Some, length}
+use Rattle.std.proofs.Common.{arith, refl, sym, ap, ◌∙◌, subst}
 use Rattle.std.proofs.lemmas.Grind.{merely}
 use Rattle.std.proofs.Math.Logic.{∥∥₁_elim}
 use Rattle.std.proofs.Props.{props}
@@ -11,72 +11,26 @@ use Rattle.map_model.specs.declared.entries.Entry.TheVariants.{Look}
 use Rattle.map_model.specs.Answer.{pair_at}
 use Rattle.map_model.specs.Logs.{IsLogOf, StandsIn, least_place}
 use Rattle.map_model.proofs.Logging.{end_in_history, looks_end, look-stands}
-use Rattle.index_machine.specs.declared.events.Action.{Action}
-use Rattle.index_machine.specs.declared.events.Action.TheVariants.{Unlock, LinkRow}
 use Rattle.index_machine.specs.declared.opening.Opening.{Opening}
 use Rattle.index_machine.specs.Execution.{Execution, Continues}
 use Rattle.index_machine.specs.Openings.{opening_map}
-use Rattle.index_machine.specs.LivePlaces.{history, history_after, value_in_map}
+use Rattle.index_machine.specs.LivePlaces.{history, value_in_map}
 use Rattle.index_rule.specs.declared.board.Board.{Board}
 use Rattle.index_rule.specs.declared.hand.Hand.{Hand}
 use Rattle.index_rule.specs.declared.view.View.{View}
 use Rattle.index_rule.specs.Rule.{Follows, HasLog, Kept, Knows, number}
 use Rattle.index_rule.specs.Rule.{first_of}
 use Rattle.index_rule.specs.Hands.{IsHandOf, known, opening_of, view}
-use Rattle.index_rule.specs.Moments.{IsBetween, IsWithin, MomentsLieWithin}
+use Rattle.index_rule.specs.Moments.{IsBetween, IsWithin}
 use Rattle.index_rule.specs.Looks.{MayNote, Notes, with_look}
+use Rattle.index_rule.proofs.Moments.{history_on, moments_within}
 use Rattle.index_rule.proofs.Steps.{follows_of, is_some, kept_with, one_opening}
 
--- ---- histories ----
+-- ---- logs ----
 
 -- the map at the opening has rising keys
 opening-rising : (o : Opening) → IsRising (opening_map o)
 opening-rising o = o.rising
-
-history_more : (d : Action) (h : History) →
-    (newer : History) × (newer ++ h ≡ history_after d h)
-history_more (Unlock p r d w) h = (d ∷ [], refl)
-history_more (LinkRow g p d before next) h = (d ∷ [], refl)
-history_more d h = ([], refl)
-
-append_more : (m n h : History) → (newer : History) × (newer ++ h ≡ m ++ (n ++ h))
-append_more [] n h = (n, refl)
-append_more (d ∷ m) n h =
-    let rest = append_more m n h in (d ∷ rest.0, ap (λ (z : History). d ∷ z) rest.1)
-
--- the history of a later execution goes on from that of the earlier one
-pub history_on : (newer t : Execution) →
-    (more : History) × (more ++ history t ≡ history (newer ++ t))
-history_on [] t = ([], refl)
-history_on (e ∷ newer) t =
-    let rest = history_on newer t in
-    let step = history_more e.action (history (newer ++ t)) in
-    let both = append_more step.0 rest.0 (history t) in
-    let inner : rest.0 ++ history t ≡ history (newer ++ t) = rest.1 in
-    let outer : step.0 ++ (rest.0 ++ history t) ≡ step.0 ++ history (newer ++ t) =
-    ap (λ (z : History). step.0 ++ z) inner
-    in
-    (both.0, both.1 ∙ (outer ∙ step.1))
-
--- and is no shorter
-pub history_grows : (first later : Execution) → Continues first later →
-    length (history first) ≤ length (history later)
-history_grows first later c =
-    let more = history_on c.0 first in
-    let long = length-append more.0 (history first) in
-    let same : length (more.0 ++ history first) ≡ length (history later) =
-    ap (λ (z : History). length z) (more.1 ∙ ap history c.1)
-    in
-    omega arith
-
--- the moments of a call lie between what its hand knew before and after
-pub moments_within : MomentsLieWithin
-moments_within hand earlier later moment within =
-    let more = history_grows (within.1 ++ earlier) moment within.4 in
-    let before = history_grows earlier (within.1 ++ earlier) (within.1, refl) in
-    (omega arith, history_grows moment later within.5)
-
--- ---- logs ----
 
 -- a look that is noted goes to the end of the log
 look_more : (o : Opening) (c : ℕ) (v : View) (moment : Execution) (key : ℕ) (found : Option ℕ) →

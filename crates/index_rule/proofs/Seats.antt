@@ -210,7 +210,7 @@ tail_is : (a b : Event) (s t : Execution) → a ∷ s ≡ b ∷ t → s ≡ t
 tail_is a b s t e = cc
 
 -- one of them begins the other
-one_begins : (n m v w : Execution) → n ++ v ≡ m ++ w →
+pub one_begins : (n m v w : Execution) → n ++ v ≡ m ++ w →
     ((mid : Execution) × (v ≡ mid ++ w) × (m ≡ n ++ mid))
     ⊎ ((mid : Execution) × (w ≡ mid ++ v) × (n ≡ m ++ mid))
 one_begins [] m v w e = inl (m, e, refl)

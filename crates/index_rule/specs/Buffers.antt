@@ -14,12 +14,12 @@ use Rattle.index_machine.specs.Rows.{InBuffer, Holds, role}
 use Rattle.index_machine.specs.Forms.{Unlocked, state_word}
 use Rattle.index_machine.specs.Places.{first_version}
 use Rattle.index_machine.specs.Reaching.{stands_in}
-use Rattle.index_machine.specs.Permissions.{IsBufferFor, MayInsertInto}
-use Rattle.index_machine.specs.LivePlaces.{live_place}
+use Rattle.index_machine.specs.Permissions.{MayInsertInto}
 use Rattle.index_machine.specs.RecordConditions.{MayWalk}
 use Rattle.index_machine.specs.Represents.{has_stale_phase}
 use Rattle.index_machine.specs.Conditions.{Valid}
 use Rattle.machine_readers.specs.Buffers.{rows}
+use Rattle.machine_buffers.specs.Inserting.{IsNewKeyFor}
 use Rattle.machine_buffers.specs.Walks.{IsLinkBefore, IsWalkable}
 use Rattle.index_rule.specs.declared.board.Board.{Board}
 use Rattle.index_rule.specs.declared.hand.Hand.{Hand}
@@ -75,7 +75,7 @@ abbrev pub BelongsWhileAbsent : Opening → ℕ → ℕ → ℕ → Execution �
 BelongsWhileAbsent o hand group k t =
     (newer : Execution) → Valid o (newer ++ t) → Without hand newer →
     look (rows group (newer ++ t)) k ≡ None →
-    IsBufferFor o k group (newer ++ t) × (live_place o k (newer ++ t) ≡ None)
+    IsNewKeyFor o k group (newer ++ t)
 
 -- the caller may link its filled row between these two places, with leave to insert
 pub record MayInsertRow (o : Opening) (hand group place before next : ℕ) (t : Execution)

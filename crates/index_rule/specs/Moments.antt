@@ -36,10 +36,13 @@ AddsChange b h change old k =
 
 -- ---- the law ----
 
--- a moment of a call stands behind all changes that its hand had seen, and behind none that it does not
--- know at the end
+-- a moment of a call stands behind all changes that its hand had seen, behind all that others had made
+-- before its first step, and behind none that it does not know at the end
 abbrev pub MomentsLieWithin : Type 0
 MomentsLieWithin =
     (hand : ℕ) (earlier later moment : Execution) → IsBetween hand earlier later moment →
     (length (history earlier) ≤ length (history moment))
+    × ((first : Action) (newer : Execution) → Without hand newer →
+    Continues (event hand first ∷ newer ++ earlier) later →
+    length (history (newer ++ earlier)) ≤ length (history moment))
     × (length (history moment) ≤ length (history later))

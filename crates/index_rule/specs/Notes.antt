@@ -29,7 +29,7 @@ pub record Settles (m x : Me (Unit {0}) View) : Type 0 where
   pub follows : (o : Opening) → x.0.opening ≡ Some o → Follows o x.0
 
 -- the hand, still of the board and with its number and log, knows the longer of what it knew and
--- this news; this goes on from both, and from what it knew by events of others alone
+-- this news; what it knows then goes on from both, and from what it knew by events of others alone
 pub record Heeds (b : Board) (h : Hand) (news : Execution) (k : Hand) : Type 0 where
   pub of : IsHandOf b k
   pub number : k.number ≡ h.number

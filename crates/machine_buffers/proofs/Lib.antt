@@ -6,3 +6,4 @@ pub mod Walkable
 pub mod Phases
 pub mod Leave
 pub mod Walks
+pub mod Inserting

@@ -34,7 +34,7 @@ group_in o t b spot lead low high k h is e =
     ∙ ap (λ (y : Option ℕ). or_else y (group_of o k t)) e
 
 -- and after one that has not
-group_out : (o : Opening) (t : Execution) (b : ℕ) (spot : InstallWord) (lead low high k : ℕ) →
+pub group_out : (o : Opening) (t : Execution) (b : ℕ) (spot : InstallWord) (lead low high k : ℕ) →
     within low k high ≡ false →
     group_of o k (event b (Install spot lead low high) ∷ t) ≡ group_of o k t
 group_out o t b spot lead low high k out =

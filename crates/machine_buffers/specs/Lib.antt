@@ -2,3 +2,4 @@ pub mod NextRows
 pub mod Groups
 pub mod Walks
 pub mod Phases
+pub mod Inserting

@@ -1,4 +1,7 @@
 //! What holds after every valid execution. Each function is a law and does nothing.
+ghost use Rattle.machine_buffers.specs.Inserting.{ArraysWithoutValueStay, MayLinkBehindOpened};
+ghost use Rattle.machine_buffers.specs.Inserting.{MayLinkWhereSeenOpen};
+ghost use Rattle.machine_buffers.specs.Inserting.{OpenedBuffersWithoutValueStay};
 ghost use Rattle.machine_buffers.specs.Phases.{LeaveToInsertStays, PhasesBeforeAreTrue};
 ghost use Rattle.machine_buffers.specs.Phases.{PhasesOfKeysAreTrue};
 ghost use Rattle.machine_buffers.specs.Phases.{TruePhasesStay};
@@ -66,4 +69,26 @@ pub fn true_phases_stay()
 /// Leave to insert that a caller has lasts as long as its read section.
 pub fn leave_to_insert_stays()
     ensures { LeaveToInsertStays }
+{}
+
+/// A key without a value in the array of a group has none there while a caller stands in it.
+pub fn arrays_without_value_stay()
+    ensures { ArraysWithoutValueStay }
+{}
+
+/// Nor has one that has none in the buffer of an opened group.
+pub fn opened_buffers_without_value_stay()
+    ensures { OpenedBuffersWithoutValueStay }
+{}
+
+/// A caller that saw its group open may link a row for a key that has no value in the array, whenever
+/// the key has no row.
+pub fn may_link_where_seen_open()
+    ensures { MayLinkWhereSeenOpen }
+{}
+
+/// A caller that saw its group opened may link a row for a key that has no value there into the
+/// buffer of the new group, whenever the key has no row in this.
+pub fn may_link_behind_opened()
+    ensures { MayLinkBehindOpened }
 {}

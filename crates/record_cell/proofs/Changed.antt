@@ -26,8 +26,8 @@ use Rattle.record_cell.specs.Locking.{HasLocked}
 use Rattle.record_cell.specs.Writes.{put_at, remove_at}
 use Rattle.record_cell.proofs.Found.{finding_begins, key_after, still_at_own}
 
--- the hand holds the lock of the record of the place, which was removed or had the one value, and has
--- the other now
+-- the hand holds the lock of the record of the place, which was removed or had the one value, and
+-- has the other now
 pub record Holds (b : Board) (h : Hand) (place at version : ℕ) (removed : Bool) (old value : ℕ) (k : Hand)
     : Type 0 where
   pub of : IsHandOf b k

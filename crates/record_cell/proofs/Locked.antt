@@ -2,10 +2,11 @@
 use Rattle.std.proofs.Common.{◌≡◌, ◌≢◌, ℕ, false, refl, sym, ◌∙◌, subst, Result, Ok, Err}
 use Rattle.std.specs.Prelude.{MatchResult}
 use Rattle.word_layout.specs.State.{IsUnlockedWord}
-use Rattle.index_machine.specs.declared.events.Action.TheVariants.{Lock, FailLock}
+use Rattle.index_machine.specs.declared.events.Action.TheVariants.{Lock, FailLock, LoadState}
+use Rattle.index_machine.specs.Conditions.{Valid}
 use Rattle.index_rule.specs.declared.board.Board.{Board}
 use Rattle.index_rule.specs.declared.hand.Hand.{Hand}
-use Rattle.index_rule.specs.Hands.{Makes}
+use Rattle.index_rule.specs.Hands.{Makes, known, opening_of}
 use Rattle.index_rule.specs.Moments.{AddsNoEntry}
 use Rattle.index_rule.proofs.RecordReading.{no_entry}
 use Rattle.index_rule.proofs.RecordStepping.{locked_after_lock, no_other_after_lock, still_at}
@@ -15,7 +16,8 @@ use Rattle.record_cell.specs.Conditions.{IsLockedState, IsTombstoneState}
 use Rattle.record_cell.specs.Finding.{CanStepAt, IsFoundAt, IsReadyAt}
 use Rattle.record_cell.specs.Locking.{HasLocked, IsRefused, LosesRace}
 use Rattle.record_cell.specs.Writes.{worn_word}
-use Rattle.record_cell.proofs.Found.{ready_on, same_key_on, still_at_own}
+use Rattle.index_rule.proofs.Stepping.{valid_known}
+use Rattle.record_cell.proofs.Found.{found_in_place, ready_on, same_key_on, still_at_own}
 use Rattle.record_cell.proofs.Told.{finds_last, finds_lock, finds_none}
 
 -- an answer of either kind means what its own means
@@ -48,12 +50,17 @@ module _ (b : Board) (h m : Hand) (place at word : ℕ) (ready : IsReadyAt b h p
     ),
   )
 
+  valid : Valid (opening_of b) (known m)
+  valid =
+      valid_known b h m (LoadState place word) ready.of
+      (found_in_place b h m place at word ready found.steps).1
+
   pub worn_refused : word ≡ worn_word false → IsRefused b h place (wrote.Worn at word) m
   worn_refused worn = (
     still,
     λ change. (
       (found.steps, worn),
-      (log, finds_last b h m place at word false ready found worn, found.same_key),
+      (log, finds_last b h m place at word false ready valid found worn, found.same_key),
     ),
   )
 

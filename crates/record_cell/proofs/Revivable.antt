@@ -1,10 +1,10 @@
--- A caller that may revive a row may do so to the end of its stay, while it holds the lock of the
--- tombstone.
+-- What a caller may revive it may revive to the end of its stay: as long as the row is a tombstone,
+-- its key has no live place.
 --
--- The fact to remember: nobody else has leave to insert into an opened group, and in a group that was
--- seen open the key's row is the tombstone itself.
+-- The fact to remember: nobody has leave to insert into an opened group, and in a group that was seen
+-- open the key's row is the tombstone itself.
 use Rattle.std.proofs.Common.{◌≡◌, ◌≢◌, ◌⊎◌, inl, inr, ⊎_elim, ℕ, true, Some, None, Option, []}
-use Rattle.std.proofs.Common.{◌∷◌, ◌++◌, sym, ap, ◌∙◌, subst}
+use Rattle.std.proofs.Common.{◌∷◌, ◌++◌, refl, sym, ap, ◌∙◌, subst}
 use Rattle.word_layout.specs.declared.phase.Phase.TheVariants.{Opened}
 use Rattle.index_machine.specs.declared.events.Action.{Action}
 use Rattle.index_machine.specs.declared.events.Action.TheVariants.{LinkRow, StoreRedirect}
@@ -35,11 +35,14 @@ use Rattle.machine_readers.specs.Readers.{ArrayHasNone, BufferHasNone}
 use Rattle.machine_readers.specs.Redirects.{RedirectsInto}
 use Rattle.machine_readers.specs.Targets.{IsDirect}
 use Rattle.index_rule.specs.Records.{IsRevivable, key_at, or_zero}
-use Rattle.record_cell.specs.Reviving.{HasNoneBehindOpened, HasNoneWhereSeenOpen}
+use Rattle.record_cell.specs.Reviving.{HasNoneBehindOpened, HasNoneElsewhere, HasNoneWhereSeenOpen}
+use Rattle.record_cell.specs.Reviving.{WhatMayBeRevivedStaysSo}
+use Rattle.index_rule.proofs.Standing.{at_role}
+use Rattle.index_machine.proofs.Executions.{valid_before}
 
 -- ---- places without a value ----
 
--- an array without a value for the key has none after an action that writes no place of the key there
+-- an array without a value for the key has none after an action that writes it no place of the key
 array_step : (o : Opening) (t : Execution) (b : ℕ) (d : Action) (g k : ℕ) → Valid o t →
     Allowed o t b d → ((a to : ℕ) → d ≡ StoreRedirect g a k to → ⊥) → ArrayHasNone o t g k →
     ArrayHasNone o (event b d ∷ t) g k
@@ -155,31 +158,31 @@ behind_on o c k g is (e ∷ n) t valid stay w =
 -- ---- either way ----
 
 -- no other place of the key has a value, by what the caller knows now
-abbrev pub HasNoneElsewhere : Opening → ℕ → ℕ → ℕ → Execution → Type 0
-HasNoneElsewhere o c k g t = IsOpenTo o c k g t ⊎ HasNoneBehindOpened o c k g t
+abbrev pub KnowsNoneElsewhere : Opening → ℕ → ℕ → ℕ → Execution → Type 0
+KnowsNoneElsewhere o c k g t = IsOpenTo o c k g t ⊎ HasNoneBehindOpened o c k g t
 
 pub elsewhere_now : (o : Opening) (c k g : ℕ) (t : Execution) → IsCaller o c → Valid o t →
-    HasNoneWhereSeenOpen o c k g t ⊎ HasNoneBehindOpened o c k g t → HasNoneElsewhere o c k g t
+    HasNoneElsewhere o c k g t → KnowsNoneElsewhere o c k g t
 elsewhere_now o c k g t is valid either =
     ⊎_elim (λ (w : HasNoneWhereSeenOpen o c k g t). inl (open_now o c k g t is valid w))
     (λ (w : HasNoneBehindOpened o c k g t). inr w) either
 
 pub elsewhere_on : (o : Opening) (c k g : ℕ) → IsCaller o c → (n t : Execution) →
-    Valid o (n ++ t) → StaysInside c n → HasNoneElsewhere o c k g t →
-    HasNoneElsewhere o c k g (n ++ t)
+    Valid o (n ++ t) → StaysInside c n → KnowsNoneElsewhere o c k g t →
+    KnowsNoneElsewhere o c k g (n ++ t)
 elsewhere_on o c k g is n t valid stay either =
     ⊎_elim (λ (w : IsOpenTo o c k g t). inl (open_on o c k g is n t valid stay w))
     (λ (w : HasNoneBehindOpened o c k g t). inr (behind_on o c k g is n t valid stay w)) either
 
 -- the caller has leave to insert
-leave : (o : Opening) (c k g : ℕ) (t : Execution) → HasNoneElsewhere o c k g t →
+leave : (o : Opening) (c k g : ℕ) (t : Execution) → KnowsNoneElsewhere o c k g t →
     MayInsertInto c g t
 leave o c k g t either =
     ⊎_elim (λ (w : IsOpenTo o c k g t). inl w.seen)
     (λ (w : HasNoneBehindOpened o c k g t). inr (w.first, w.made, w.seen)) either
 
 -- the key's row belongs in the group
-belongs : (o : Opening) (c k g : ℕ) (t : Execution) → HasNoneElsewhere o c k g t →
+belongs : (o : Opening) (c k g : ℕ) (t : Execution) → KnowsNoneElsewhere o c k g t →
     IsBufferFor o k g t
 belongs o c k g t either =
     ⊎_elim (λ (w : IsOpenTo o c k g t). inl w.of_key)
@@ -192,13 +195,13 @@ belongs o c k g t either =
 
 -- so the row is a record itself
 pub row_is_direct : (o : Opening) (c k g place : ℕ) (t : Execution) → Valid o t →
-    HasNoneElsewhere o c k g t → role o place t ≡ InBuffer g k → IsDirect (form o place t)
+    KnowsNoneElsewhere o c k g t → role o place t ≡ InBuffer g k → IsDirect (form o place t)
 row_is_direct o c k g place t valid either row =
     (groups_hold o t valid g k (belongs o c k g t either)).rows place row
 
 -- where the group has no row with a value for the key either, the key has no live place
 pub lives_nowhere : (o : Opening) (c k g : ℕ) (t : Execution) → IsCaller o c → Valid o t →
-    HasNoneElsewhere o c k g t → BufferHasNone o t g k →
+    KnowsNoneElsewhere o c k g t → BufferHasNone o t g k →
     IsBufferFor o k g t × (live_place o k t ≡ None)
 lives_nowhere o c k g t is valid either rows =
     ⊎_elim
@@ -210,7 +213,7 @@ lives_nowhere o c k g t is valid either rows =
 
 -- so while the row is removed, it may come to life
 pub revivable : (o : Opening) (c k g place : ℕ) (t : Execution) → IsCaller o c → Valid o t →
-    HasNoneElsewhere o c k g t → role o place t ≡ InBuffer g k →
+    KnowsNoneElsewhere o c k g t → role o place t ≡ InBuffer g k →
     is_removed (form o place t) ≡ true → IsRevivable o c place t
 revivable o c k g place t is valid either row gone =
     let key : k ≡ key_at o place t = sym (ap (λ (r : Role). or_zero (role_key r)) row) in
@@ -233,3 +236,38 @@ not_in_map o t k valid none = by_place (live_place o k t) none (agreement o t va
     by_place : (p : Option ℕ) → p ≡ None → HasLiveValue o t k p → value_in_map o k t ≡ None
     by_place None e has = has
     by_place (Some q) e has = none_some (sym e)
+
+-- ---- the law ----
+
+-- what the caller knows now is what it may be asked for
+as_asked : (o : Opening) (c k g : ℕ) (t : Execution) → KnowsNoneElsewhere o c k g t →
+    HasNoneElsewhere o c k g t
+as_asked o c k g t either =
+    ⊎_elim
+    (λ (w : IsOpenTo o c k g t).
+    inl
+    (record {
+      stood = record {
+        earlier = t;
+        newer = [];
+        since = refl;
+        stays = tt;
+        stands = w.stands;
+        of_key = w.of_key;
+      };
+      seen = w.seen;
+      array = w.array;
+    }))
+    (λ (w : HasNoneBehindOpened o c k g t). inr w) either
+
+pub stays_revivable : WhatMayBeRevivedStaysSo
+stays_revivable o c place n t valid stay at may =
+    let is = at.reading.caller in
+    record {
+      group = may.group;
+      key = may.key;
+      row = at_role o c place n t valid stay at ∙ may.row;
+      elsewhere = as_asked o c may.key may.group (n ++ t)
+          (elsewhere_on o c may.key may.group is n t valid stay
+          (elsewhere_now o c may.key may.group t is (valid_before o n t valid) may.elsewhere));
+    }

@@ -44,7 +44,7 @@ use Rattle.record_cell.proofs.Changed.{Holds, adds_entry, may_release, put_is, r
 use Rattle.record_cell.proofs.Changed.{stored_holds}
 use Rattle.record_cell.proofs.Found.{can_step, found_as, ready_on, same_key_on, says_word}
 use Rattle.record_cell.proofs.Found.{still_at_own}
-use Rattle.record_cell.proofs.Revivable.{HasNoneElsewhere, elsewhere_now, elsewhere_on, not_in_map}
+use Rattle.record_cell.proofs.Revivable.{KnowsNoneElsewhere, elsewhere_now, elsewhere_on, not_in_map}
 use Rattle.record_cell.proofs.Revivable.{revivable, row_is_direct}
 use Rattle.record_cell.proofs.Told.{finds_last, finds_lock}
 
@@ -57,7 +57,7 @@ pub record IsAtLoneRow (b : Board) (place : ℕ) (k : Hand) : Type 0 where
   pub group : ℕ
   pub key : ℕ
   pub row : role (opening_of b) place (known k) ≡ InBuffer group key
-  pub elsewhere : HasNoneElsewhere (opening_of b) k.number key group (known k)
+  pub elsewhere : KnowsNoneElsewhere (opening_of b) k.number key group (known k)
 
 -- so it is as the call begins
 lone_first : (b : Board) (h : Hand) (place : ℕ) → Valid (opening_of b) (known h) →
@@ -84,7 +84,7 @@ lone_on b h k action place none m lone =
       key = lone.key;
       row = same_role b h k action lone.of m none place lone.there ∙ lone.row;
       elsewhere = now b h k action lone.of m
-          (λ z t. HasNoneElsewhere (opening_of b) z lone.key lone.group t)
+          (λ z t. KnowsNoneElsewhere (opening_of b) z lone.key lone.group t)
           (elsewhere_on (opening_of b) h.number lone.key lone.group lone.there.reading.caller
           (since b h k action lone.of m) (known h) (valid_after b h k action lone.of m)
           (goes_on_inside b h k action lone.of m none) lone.elsewhere);
@@ -160,6 +160,7 @@ module _ (b : Board) (h m : Hand) (place word : ℕ) (ready : IsReadyAt b h plac
           let lives = ap live_value f.1 in (
             known m,
             within_end h m (begins b h m (LoadState place word) ready.of load),
+            same_role b h m (LoadState place word) ready.of load tt place ready.at_own.there,
             f.0,
             lives,
             subst (λ (z : ℕ). value_in_map o z (known m) ≡ Some f.0)
@@ -170,7 +171,7 @@ module _ (b : Board) (h m : Hand) (place word : ℕ) (ready : IsReadyAt b h plac
   pub worn_tells : (value : ℕ) → word ≡ worn_word true →
       RevivalTells b h place value (wrote.Worn place word) m
   worn_tells value worn =
-      (log, finds_last b h m place place word true ready found worn, found.same_key)
+      (log, finds_last b h m place place word true ready valid found worn, found.same_key)
 
   -- ---- the exchange ----
 

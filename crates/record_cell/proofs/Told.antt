@@ -1,11 +1,13 @@
 -- What the answers on a record tell of its key.
 use Rattle.std.proofs.Common.{◌≡◌, inl, inr, ⊎_elim, ℕ, Bool, true, false, Option, Some}
 use Rattle.std.proofs.Common.{None, ◌+◌, ◌≤◌, ◌++◌, refl, sym, ap, ◌∙◌, subst}
+use Rattle.index_machine.specs.declared.events.Action.{Action}
 use Rattle.index_machine.specs.declared.events.Action.TheVariants.{LoadState, LoadValue}
 use Rattle.index_machine.specs.declared.opening.Opening.{Opening}
 use Rattle.index_machine.specs.Execution.{Execution}
 use Rattle.index_machine.specs.Forms.{Form, Blank, Unlocked, Locked, Copied, Redirect, Moved}
 use Rattle.index_machine.specs.Forms.{is_removed, live_value, last_version}
+use Rattle.index_machine.specs.Rows.{role}
 use Rattle.index_machine.specs.Places.{first_version, form}
 use Rattle.index_machine.specs.LivePlaces.{history, live_place, value_in_map}
 use Rattle.map_model.specs.History.{changes_at}
@@ -23,22 +25,31 @@ use Rattle.index_machine.specs.KeyRanges.{group_of}
 use Rattle.word_layout.specs.declared.phase.Phase.TheVariants.{Open, Opened}
 use Rattle.index_rule.specs.declared.board.Board.{Board}
 use Rattle.index_rule.specs.declared.hand.Hand.{Hand}
-use Rattle.index_rule.specs.Hands.{Makes, known, opening_of}
+use Rattle.index_rule.specs.Hands.{IsHandOf, Makes, known, opening_of}
 use Rattle.index_rule.specs.Records.{key_at, or_zero}
 use Rattle.index_rule.proofs.BuiltLaws.{groups_as_opened, one_place_each}
 use Rattle.index_rule.proofs.Calls.{begun_on, from_there, goes_on, is_within, up_to, within_end}
 use Rattle.index_rule.proofs.RecordReading.{value_enclosed, value_in_map_at}
-use Rattle.index_rule.proofs.RecordStepping.{still_at}
+use Rattle.index_rule.proofs.RecordStepping.{same_role, still_at, valid_moment}
 use Rattle.index_rule.proofs.StateForms.{locked_by_word, unlocked_by_word}
-use Rattle.index_rule.proofs.Stepping.{valid_known}
+use Rattle.index_rule.proofs.Standing.{at_role, stays_inside}
+use Rattle.index_rule.proofs.Stepping.{others_only, valid_known}
 use Rattle.record_cell.specs.Conditions.{IsLiveState, IsLockedState, IsTombstoneState}
 use Rattle.record_cell.specs.Finding.{CanStepAt, IsFoundAt, IsReadyAt}
 use Rattle.record_cell.specs.Reads.{FindsLock, FindsNone, FindsValue, GoneIsAbsent}
 use Rattle.record_cell.specs.Reads.{HasNoValueElsewhere}
 use Rattle.record_cell.specs.Writes.{FindsLastVersion, worn_word}
-use Rattle.record_cell.proofs.Found.{finding_begins, found_in_place}
+use Rattle.record_cell.proofs.Found.{finding_begins, found_in_place, ready_on}
 
 -- ---- values ----
+
+-- a place where the caller is keeps its role up to the moment of a step
+role_at_moment : (b : Board) (h k : Hand) (action : Action) → (of : IsHandOf b h) →
+    (m : Makes b h action k) (place : ℕ) → IsAt (opening_of b) h.number place (known h) →
+    role (opening_of b) place (m.acts.0 ++ known h) ≡ role (opening_of b) place (known h)
+role_at_moment b h k action of m place there =
+    at_role (opening_of b) h.number place m.acts.0 (known h) (valid_moment b h k action of m)
+    (stays_inside h.number m.acts.0 (others_only b h k action of m)) there
 
 -- the value that was loaded between two loads of one state word
 pub read_value : (b : Board) (h m n k : Hand) (place at word value : ℕ) → IsReadyAt b h place →
@@ -68,6 +79,9 @@ read_value b h m n k place at word value ready found live l s =
           (continues_trans moment (known n) (known k)
           (from_there b m n (LoadValue at value) first.of l)
           (goes_on b n k (LoadState at word) l.of s)),
+      role_at_moment b m n (LoadValue at value) first.of l place
+          (ready_on b h m (LoadState place word) place tt here.1 (λ z. z) ready).at_own.there
+          ∙ same_role b h m (LoadState place word) ready.of here.1 tt place ready.at_own.there,
       subst (λ (z : ℕ). value_in_map o z moment ≡ Some value)
           (sym (ap or_zero found.same_key.1)) in_map,
     )
@@ -132,6 +146,7 @@ finds_none b h k place at word ready found stone =
     in (
       known k,
       within_end h k (finding_begins b h k place at word ready.of found.steps),
+      same_role b h k (LoadState place word) ready.of here.1 tt place ready.at_own.there,
       none,
       λ elsewhere. absent o (known k) valid place (key_at o place (known h)) none elsewhere,
     )
@@ -166,12 +181,10 @@ finds_lock b h k place at word ready number can found locked = (
 
 -- the last version tells of the changes of its key
 pub finds_last : (b : Board) (h k : Hand) (place at word : ℕ) (removed : Bool) →
-    IsReadyAt b h place → IsFoundAt b h place at word k → word ≡ worn_word removed →
-    FindsLastVersion b h place k
-finds_last b h k place at word removed ready found worn =
+    IsReadyAt b h place → Valid (opening_of b) (known k) → IsFoundAt b h place at word k →
+    word ≡ worn_word removed → FindsLastVersion b h place k
+finds_last b h k place at word removed ready valid found worn =
     let o = opening_of b in
-    let here = found_in_place b h k place at word ready found.steps in
-    let valid = valid_known b h k (LoadState place word) ready.of here.1 in
     let f = unlocked_by_word (form o at (known k)) last_version removed
     (not_blank o (known k) valid at found.same_key.0 found.same_key.2) (found.says ∙ worn) in
     let count = (versions_count_changes o (known k) valid).most at found.same_key.0 last_version

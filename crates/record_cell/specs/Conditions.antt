@@ -24,7 +24,7 @@ IsTombstoneState word = (version : ℕ) × (word ≡ word_of_state (Direct versi
 abbrev pub IsLiveState : ℕ → Type 0
 IsLiveState word = (version : ℕ) × (word ≡ word_of_state (Direct version false false))
 
--- the word of an unlocked record, removed or with a value, whose version can still be raised
+-- the word of an unlocked record, removed or not, whose version can still be raised
 abbrev pub IsChangeable : Bool → ℕ → Type 0
 IsChangeable removed word = (version : ℕ) × IsUnlockedWord version removed word
 

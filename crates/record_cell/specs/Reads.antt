@@ -44,10 +44,15 @@ Reads b h place (read.Changed at first second) k =
 
 -- ---- what the answer tells ----
 
+-- the place was then the one of its group and key that it was as the call began
+abbrev pub IsStill : Board → Hand → ℕ → Execution → Type 0
+IsStill b h place moment =
+    role (opening_of b) place moment ≡ role (opening_of b) place (known h)
+
 -- the key of the place had this value in the map at a moment of the call
 abbrev pub FindsValue : Board → Hand → ℕ → ℕ → Hand → Type 0
 FindsValue b h place value k =
-    (moment : Execution) × IsWithin h k moment
+    (moment : Execution) × IsWithin h k moment × IsStill b h place moment
     × (value_in_map (opening_of b) (key_at (opening_of b) place (known h)) moment ≡ Some value)
 
 -- no place of the key but this one has a value
@@ -61,14 +66,15 @@ abbrev pub FindsNone : Board → Hand → ℕ → Hand → Type 0
 FindsNone b h place k =
     let o = opening_of b in
     let key = key_at o place (known h) in
-    (moment : Execution) × IsWithin h k moment × HasNoValue o moment place
+    (moment : Execution) × IsWithin h k moment × IsStill b h place moment
+    × HasNoValue o moment place
     × (HasNoValueElsewhere o key place moment → value_in_map o key moment ≡ None)
 
 -- the place had a value at a moment of the call, and so had its key in the map
 abbrev pub FindsLive : Board → Hand → ℕ → Hand → Type 0
 FindsLive b h place k =
     let o = opening_of b in
-    (moment : Execution) × IsWithin h k moment
+    (moment : Execution) × IsWithin h k moment × IsStill b h place moment
     × (value : ℕ) × (live_value (form o place moment) ≡ Some value)
     × (value_in_map o (key_at o place (known h)) moment ≡ Some value)
 

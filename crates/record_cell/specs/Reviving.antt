@@ -1,13 +1,16 @@
--- When a tombstone of a buffer may come to life again, what a revival did, and what its answer tells.
+-- When a tombstone of a buffer may come to life again, what a revival did, and what its answer
+-- tells.
 use Rattle.std.specs.Prelude.{◌≡◌, ◌≢◌, ◌⊎◌, ℕ, true, false, Some, None, [], ◌∷◌, ◌++◌}
 use Rattle.word_layout.specs.declared.phase.Phase.TheVariants.{Opened}
 use Rattle.index_machine.specs.declared.events.Action.TheVariants.{LoadState, Lock, FailLock}
 use Rattle.index_machine.specs.declared.events.Action.TheVariants.{StoreValue, Unlock}
 use Rattle.index_machine.specs.declared.opening.Opening.{Opening}
+use Rattle.index_machine.specs.Conditions.{Valid}
 use Rattle.index_machine.specs.Execution.{Execution}
 use Rattle.index_machine.specs.Groups.{phase, rebuild}
 use Rattle.index_machine.specs.KeyRanges.{group_of}
 use Rattle.index_machine.specs.Reaching.{saw_open, saw_opened, stands_in}
+use Rattle.index_machine.specs.RecordConditions.{IsAt}
 use Rattle.index_machine.specs.Rows.{InBuffer, role}
 use Rattle.index_machine.specs.Sections.{StaysInside}
 use Rattle.machine_readers.specs.Readers.{ArrayHasNone, BufferHasNone}
@@ -52,13 +55,27 @@ pub record HasNoneBehindOpened (o : Opening) (hand k group : ℕ) (t : Execution
   pub array : ArrayHasNone o t old k
   pub buffer : BufferHasNone o t old k
 
--- the place is a row of a buffer into which the caller has leave to insert, and no other place of
--- its key has a value
+-- in one of these two ways the caller has leave to insert into the group's buffer, and knows that
+-- no place of the key elsewhere has a value
+abbrev pub HasNoneElsewhere : Opening → ℕ → ℕ → ℕ → Execution → Type 0
+HasNoneElsewhere o hand k group t =
+    HasNoneWhereSeenOpen o hand k group t ⊎ HasNoneBehindOpened o hand k group t
+
+-- the place is a row of such a buffer. Of its own value this says nothing
 pub record MayRevive (o : Opening) (hand place : ℕ) (t : Execution) : Type 0 where
   pub group : ℕ
   pub key : ℕ
   pub row : role o place t ≡ InBuffer group key
-  pub elsewhere : HasNoneWhereSeenOpen o hand key group t ⊎ HasNoneBehindOpened o hand key group t
+  pub elsewhere : HasNoneElsewhere o hand key group t
+
+-- ---- the law ----
+
+-- what a caller may revive it may revive to the end of its stay, whatever is done until then
+abbrev pub WhatMayBeRevivedStaysSo : Type 0
+WhatMayBeRevivedStaysSo =
+    (o : Opening) (hand place : ℕ) (newer t : Execution) → Valid o (newer ++ t) →
+    StaysInside hand newer → IsAt o hand place t → MayRevive o hand place t →
+    MayRevive o hand place (newer ++ t)
 
 -- ---- the steps ----
 

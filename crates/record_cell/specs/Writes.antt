@@ -42,7 +42,7 @@ changing at word old (Put c k value) stored =
 changing at word old (Remove c k) stored =
     Unlock at true (Remove c k) stored ∷ LoadValue at old ∷ Lock at word ∷ []
 
--- the state word of the last version, of a record that is removed or has a value
+-- the state word of the last version, of a record that is removed or not
 abbrev pub worn_word : Bool → ℕ
 worn_word removed = word_of_state (Direct last_version false removed)
 

@@ -19,7 +19,7 @@ pub enum Read {
 /// What a change of a record came to. All but `Done` change nothing.
 #[derive(Clone, Copy, Debug, PartialEq, Eq)]
 pub enum Wrote {
-    /// The record was changed, where its key had this value.
+    /// The record was changed, where its key had this value, or none.
     Done {
         old: Option<u64>,
     },

@@ -15,6 +15,6 @@ mod tests;
 
 pub use answers::{Read, Wrote};
 pub use changing::{kill, update};
-pub use laws::gone_is_absent;
+pub use laws::{gone_is_absent, what_may_be_revived_stays_so};
 pub use reading::read;
 pub use reviving::revive;

@@ -1,7 +1,7 @@
 //! A tombstone of a buffer comes to life again.
 //!
-//! No other place of its key has a value while the version lock of the tombstone is held: nobody may
-//! insert the key elsewhere, and a tombstone of an array stays one.
+//! No other place of its key has a value while the version lock of the tombstone is held: a tombstone
+//! of an array stays one, and nobody may insert into an old group's buffer.
 ghost use Rattle.std.specs.Prelude.{◌≡◌};
 ghost use Rattle.index_rule.specs.Hands.{known, opening_of};
 ghost use Rattle.record_cell.specs.Finding.{IsReadyAt};
