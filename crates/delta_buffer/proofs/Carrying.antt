@@ -6,6 +6,7 @@ use Rattle.word_layout.specs.declared.places.Part.TheVariants.{Link, State, Valu
 use Rattle.word_layout.specs.Words.{PlaceWord}
 use Rattle.index_machine.specs.declared.events.Action.{Action}
 use Rattle.index_machine.specs.declared.events.Action.TheVariants.{LoadHead, LoadKey, LoadLink}
+use Rattle.index_machine.specs.Conditions.{Valid}
 use Rattle.index_machine.specs.Execution.{Execution, Without, event}
 use Rattle.index_machine.specs.Forms.{Unlocked, state_word}
 use Rattle.index_machine.specs.Places.{first_version}
@@ -19,6 +20,7 @@ use Rattle.index_rule.specs.Buffers.{IsFilled}
 use Rattle.index_rule.specs.Hands.{IsHandOf, Makes, MakesAll, known, opening_of}
 use Rattle.index_rule.proofs.Standing.{stays_inside}
 use Rattle.index_rule.proofs.Stepping.{held_word_is, known_is, others_only, still_holds}
+use Rattle.index_rule.proofs.Stepping.{valid_known}
 use Rattle.delta_buffer.proofs.Stepping.{no_crossing}
 use Rattle.delta_buffer.specs.Walks.{AreWalkOf, IsWalkOf, Walks}
 
@@ -48,6 +50,7 @@ pub record GoesOnInside (b : Board) (h k : Hand) : Type 0 where
   pub newer : Execution
   pub on : newer ++ known h ≡ known k
   pub stays : StaysInside h.number newer
+  pub valid : Valid (opening_of b) (known k)
 
 -- the hand still has the row, with the words that it had
 pub record HasRowAsBefore (b : Board) (p : ℕ) (h k : Hand) : Type 0 where
@@ -72,30 +75,37 @@ inside_step b g h m k d is q on =
             (subst (λ (c : ℕ). Without c q.acts.0) on.number (others_only b m k d on.of q)))
             on.stays,
       );
+      valid = valid_known b m k d on.of q;
     }
 
-inside_all : (b : Board) (g : ℕ) (h k : Hand) → IsHandOf b h → (ds : List Action) →
-    AreWalkOf g ds → MakesAll b h ds k → GoesOnInside b h k
-inside_all b g h k of [] are makes =
+of_all : (b : Board) (g : ℕ) (h k : Hand) → IsHandOf b h → (ds : List Action) →
+    MakesAll b h ds k → IsHandOf b k
+of_all b g h k of [] makes = subst (IsHandOf b) (sym makes) of
+of_all b g h k of (d ∷ ds) makes = makes.2.of
+
+inside_all : (b : Board) (g : ℕ) (h k : Hand) → IsHandOf b h → Valid (opening_of b) (known h) →
+    (ds : List Action) → AreWalkOf g ds → MakesAll b h ds k → GoesOnInside b h k
+inside_all b g h k of valid [] are makes =
     subst (λ (z : Hand). GoesOnInside b h z) (sym makes)
-    (record { of = of; number = refl; newer = []; on = refl; stays = tt })
-inside_all b g h k of (d ∷ ds) are makes =
+    (record { of = of; number = refl; newer = []; on = refl; stays = tt; valid = valid })
+inside_all b g h k of valid (d ∷ ds) are makes =
     inside_step b g h makes.0 k d are.0 makes.2
-    (inside_all b g h makes.0 of ds are.1 makes.1)
+    (inside_all b g h makes.0 of valid ds are.1 makes.1)
 
 -- over a walk the read section goes on
-pub walk_inside : (b : Board) (g : ℕ) (h k : Hand) → IsHandOf b h → Walks b g h k →
-    GoesOnInside b h k
-walk_inside b g h k of walks = inside_all b g h k of walks.0 walks.1 walks.2
+pub walk_inside : (b : Board) (g : ℕ) (h k : Hand) → IsHandOf b h →
+    Valid (opening_of b) (known h) → Walks b g h k → GoesOnInside b h k
+walk_inside b g h k of valid walks = inside_all b g h k of valid walks.0 walks.1 walks.2
 
-row_step : (b : Board) (g p : ℕ) (h m k : Hand) (d : Action) → IsWalkOf g d → IsHandOf b m →
-    Makes b m d k → HasRowAsBefore b p h m → HasRowAsBefore b p h k
-row_step b g p h m k d is of q has =
+pub row_on : (b : Board) (p : ℕ) (h m k : Hand) (d : Action) → KeepsRoles d →
+    ((c : ℕ) → store_of c d ≡ None) → IsHandOf b m → Makes b m d k → HasRowAsBefore b p h m →
+    HasRowAsBefore b p h k
+row_on b p h m k d keeps none of q has =
     record {
-      held = still_holds b m k d of q (keeps_roles g d is) p has.held;
+      held = still_holds b m k d of q keeps p has.held;
       words = λ part. held_word_is b m k d of q p part has.held
           ∙ (ap (λ (s : Option Store). stored s (PlaceWord p part)
-          (word (opening_of b) (known m) (PlaceWord p part))) (stores_none g m.number d is)
+          (word (opening_of b) (known m) (PlaceWord p part))) (none m.number)
           ∙ has.words part);
     }
 
@@ -106,7 +116,8 @@ row_all b g p h k of held [] are makes =
     subst (λ (z : Hand). HasRowAsBefore b p h z) (sym makes)
     (record { held = held; words = λ part. refl })
 row_all b g p h k of held (d ∷ ds) are makes =
-    row_step b g p h makes.0 k d are.0 (inside_all b g h makes.0 of ds are.1 makes.1).of makes.2
+    row_on b p h makes.0 k d (keeps_roles g d are.0) (λ c. stores_none g c d are.0)
+    (of_all b g h makes.0 of ds makes.1) makes.2
     (row_all b g p h makes.0 of held ds are.1 makes.1)
 
 -- over a walk a row of one's own stays as it is

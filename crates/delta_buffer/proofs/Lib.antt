@@ -2,3 +2,4 @@ pub mod Links
 pub mod Stepping
 pub mod Linking
 pub mod Carrying
+pub mod Entering

@@ -2,7 +2,8 @@
 --
 -- The fact to remember: between the two steps the hand itself did nothing but store the link, so what
 -- belonged there before belongs there still.
-use Rattle.std.proofs.Common.{append_assoc, ◌≡◌, ◌⊎◌, ℕ, ◌<◌, inl, inr, ⊎_elim, Option, None, false, []}
+use Rattle.std.proofs.Common.{append_assoc, ◌≡◌, ◌⊎◌, ℕ, ◌<◌, inl, inr, ⊎_elim, Option, None}
+use Rattle.std.proofs.Common.{false, []}
 use Rattle.std.proofs.Common.{◌∷◌, ◌++◌, length, refl, sym, ap, ◌∙◌, subst, arith}
 use Rattle.map_model.specs.declared.entries.Change.{Change}
 use Rattle.map_model.specs.declared.entries.Change.TheVariants.{Put}
@@ -16,6 +17,7 @@ use Rattle.word_layout.specs.Words.{PlaceWord}
 use Rattle.word_layout.specs.Places.{FitsPart, IsRow, part_address, part_of}
 use Rattle.index_machine.specs.declared.events.Action.{Action}
 use Rattle.index_machine.specs.declared.events.Action.TheVariants.{FailLink, LinkRow, StorePrivate}
+use Rattle.index_machine.specs.declared.opening.Opening.{Opening}
 use Rattle.index_machine.specs.Conditions.{Valid}
 use Rattle.index_machine.specs.Execution.{Execution, Without}
 use Rattle.index_machine.specs.Forms.{Unlocked, state_word}
@@ -23,7 +25,7 @@ use Rattle.index_machine.specs.LivePlaces.{history, live_place, value_in_map}
 use Rattle.index_machine.specs.Permissions.{IsBufferFor, MayInsertInto}
 use Rattle.index_machine.specs.Places.{first_version}
 use Rattle.index_machine.specs.Rows.{InBuffer, role}
-use Rattle.index_machine.specs.Sections.{IsNoCrossing, StaysInside}
+use Rattle.index_machine.specs.Sections.{IsCaller, IsNoCrossing, StaysInside}
 use Rattle.index_machine.specs.Words.{limits, word}
 use Rattle.index_machine.proofs.Executions.{choice-same}
 use Rattle.machine_buffers.specs.Walks.{IsLinkBefore}
@@ -45,10 +47,12 @@ use Rattle.index_rule.proofs.RecordReading.{log_is, no_entry}
 use Rattle.index_rule.proofs.RecordStepping.{goes_on_inside, now, since}
 use Rattle.index_rule.proofs.Stepping.{held_word_is, known_is, others_only, still_holds}
 use Rattle.index_rule.proofs.Stepping.{valid_after}
-use Rattle.record_cell.proofs.Revivable.{elsewhere_now, elsewhere_on, lives_nowhere, not_in_map}
+use Rattle.record_cell.proofs.Revivable.{HasNoneElsewhere, elsewhere_now, elsewhere_on}
+use Rattle.record_cell.proofs.Revivable.{lives_nowhere, not_in_map}
 use Rattle.row_arena.proofs.HeldRows.{other_word, stored_word, stores_part}
 use Rattle.delta_buffer.specs.Inserting.{CanInsert, InsertTells, Inserts, KeepsRow, OnlyStores}
-use Rattle.delta_buffer.specs.Inserting.{IsPrivateStore, KeysWithoutAValueBelong, change_of}
+use Rattle.delta_buffer.specs.Inserting.{BelongsUntilLinked, IsPrivateStore}
+use Rattle.delta_buffer.specs.Inserting.{KeysWithoutAValueBelong, change_of}
 use Rattle.delta_buffer.specs.Searching.{CanSearch}
 use Rattle.delta_buffer.proofs.Stepping.{before_after, search_after}
 
@@ -73,12 +77,16 @@ stays_with_stores c [] only = tt
 stays_with_stores c (e ∷ n) only =
     ((λ own. store_is_no_crossing e.action (only.0 own)), stays_with_stores c n only.1)
 
-pub keys_belong : KeysWithoutAValueBelong
-keys_belong o t valid c k g is either newer whole only gap =
+pub belongs_elsewhere : (o : Opening) (t : Execution) (c k g : ℕ) → IsCaller o c →
+    HasNoneElsewhere o c k g t → BelongsUntilLinked o c g k t
+belongs_elsewhere o t c k g is before newer whole only gap =
     let T : Execution = newer ++ t in
-    let none = elsewhere_on o c k g is newer t whole (stays_with_stores c newer only)
-    (elsewhere_now o c k g t is valid either) in
+    let none = elsewhere_on o c k g is newer t whole (stays_with_stores c newer only) before in
     lives_nowhere o c k g T is whole none (λ p row. absurd (gaps o T whole g k gap p row))
+
+pub keys_belong : KeysWithoutAValueBelong
+keys_belong o t valid c k g is either =
+    belongs_elsewhere o t c k g is (elsewhere_now o c k g t is valid either)
 
 -- ---- what a link may be ----
 

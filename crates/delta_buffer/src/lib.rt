@@ -8,6 +8,8 @@ mod answers;
 mod finding;
 mod inserting;
 mod laws;
+#[cfg(test)]
+mod tests;
 mod walking;
 
 pub use answers::Found;
