@@ -34,7 +34,7 @@ use Rattle.index_rule.proofs.RecordStepping.{now, still_inside, still_stands}
 use Rattle.index_rule.proofs.RootStepping.{built_moment, root_is, sees_after_root, slot_is}
 use Rattle.index_rule.proofs.RootStepping.{stands_after_slot}
 use Rattle.index_rule.proofs.Stepping.{built_known, still_holds_no_lock, valid_after, valid_known}
-use Rattle.record_cell.proofs.Revivable.{HasNoneElsewhere, elsewhere_now, elsewhere_on}
+use Rattle.record_cell.proofs.Revivable.{KnowsNoneElsewhere, elsewhere_now, elsewhere_on}
 use Rattle.row_arena.specs.Taking.{Fills}
 use Rattle.delta_buffer.specs.Inserting.{BelongsUntilLinked, CanInsert}
 use Rattle.delta_buffer.specs.Searching.{BelongsBetween, FindsGap}
@@ -193,7 +193,7 @@ can_insert b place before next h k at walks gap =
     let seven = seven_on b place h k has at.row in
     let caller = at.search.reading.caller in
     let whole : Valid o (on.newer ++ known h) = subst (Valid o) (sym on.on) on.valid in
-    let none : HasNoneElsewhere o h.number 7 0 (on.newer ++ known h) =
+    let none : KnowsNoneElsewhere o h.number 7 0 (on.newer ++ known h) =
     elsewhere_on o h.number 7 0 caller on.newer (known h) whole on.stays
     (elsewhere_now o h.number 7 0 (known h) caller at.valid (inl at.elsewhere)) in
     let belong : BelongsUntilLinked o h.number 0 7 (on.newer ++ known h) =

@@ -47,7 +47,7 @@ use Rattle.index_rule.proofs.RecordReading.{log_is, no_entry}
 use Rattle.index_rule.proofs.RecordStepping.{goes_on_inside, now, since}
 use Rattle.index_rule.proofs.Stepping.{held_word_is, known_is, others_only, still_holds}
 use Rattle.index_rule.proofs.Stepping.{valid_after}
-use Rattle.record_cell.proofs.Revivable.{HasNoneElsewhere, elsewhere_now, elsewhere_on}
+use Rattle.record_cell.proofs.Revivable.{KnowsNoneElsewhere, elsewhere_now, elsewhere_on}
 use Rattle.record_cell.proofs.Revivable.{lives_nowhere, not_in_map}
 use Rattle.row_arena.proofs.HeldRows.{other_word, stored_word, stores_part}
 use Rattle.delta_buffer.specs.Inserting.{CanInsert, InsertTells, Inserts, KeepsRow, OnlyStores}
@@ -78,7 +78,7 @@ stays_with_stores c (e ∷ n) only =
     ((λ own. store_is_no_crossing e.action (only.0 own)), stays_with_stores c n only.1)
 
 pub belongs_elsewhere : (o : Opening) (t : Execution) (c k g : ℕ) → IsCaller o c →
-    HasNoneElsewhere o c k g t → BelongsUntilLinked o c g k t
+    KnowsNoneElsewhere o c k g t → BelongsUntilLinked o c g k t
 belongs_elsewhere o t c k g is before newer whole only gap =
     let T : Execution = newer ++ t in
     let none = elsewhere_on o c k g is newer t whole (stays_with_stores c newer only) before in

@@ -1,5 +1,5 @@
 -- What linking a row into a buffer needs and does.
-use Rattle.std.specs.Prelude.{◌≡◌, ◌≢◌, ◌⊎◌, ℕ, None, [], ◌∷◌, ◌++◌}
+use Rattle.std.specs.Prelude.{◌≡◌, ◌≢◌, ℕ, None, [], ◌∷◌, ◌++◌}
 use Rattle.map_model.specs.declared.entries.Change.{Change}
 use Rattle.map_model.specs.Map.{look}
 use Rattle.word_layout.specs.declared.places.Part.TheVariants.{Link}
@@ -9,12 +9,12 @@ use Rattle.index_machine.specs.declared.events.Action.TheVariants.{FailLink, Lin
 use Rattle.index_machine.specs.declared.opening.Opening.{Opening}
 use Rattle.index_machine.specs.Conditions.{Valid}
 use Rattle.index_machine.specs.Execution.{Execution}
-use Rattle.index_machine.specs.LivePlaces.{live_place}
-use Rattle.index_machine.specs.Permissions.{IsBufferFor, MayInsertInto}
+use Rattle.index_machine.specs.Permissions.{MayInsertInto}
 use Rattle.index_machine.specs.Rows.{InBuffer, role}
 use Rattle.index_machine.specs.Sections.{IsCaller}
 use Rattle.index_machine.specs.Words.{word}
 use Rattle.machine_readers.specs.Buffers.{rows}
+use Rattle.machine_buffers.specs.Inserting.{IsNewKeyFor}
 use Rattle.index_rule.specs.declared.board.Board.{Board}
 use Rattle.index_rule.specs.declared.hand.Hand.{Hand}
 use Rattle.index_rule.specs.declared.swap.Linked.{Linked}
@@ -23,7 +23,7 @@ use Rattle.index_rule.specs.Buffers.{IsFilled, inserted_by, key_in}
 use Rattle.index_rule.specs.Hands.{MakesAll, known, opening_of}
 use Rattle.index_rule.specs.Moments.{AddsChange, AddsNoEntry}
 use Rattle.index_rule.specs.OwnRows.{place_of_private}
-use Rattle.record_cell.specs.Reviving.{HasNoneBehindOpened, HasNoneWhereSeenOpen}
+use Rattle.record_cell.specs.Reviving.{HasNoneElsewhere}
 use Rattle.delta_buffer.specs.Searching.{BelongsBetween}
 
 -- ---- what it needs ----
@@ -44,7 +44,7 @@ abbrev pub BelongsUntilLinked : Opening → ℕ → ℕ → ℕ → Execution �
 BelongsUntilLinked o hand group key t =
     (newer : Execution) → Valid o (newer ++ t) → OnlyStores hand newer →
     look (rows group (newer ++ t)) key ≡ None →
-    IsBufferFor o key group (newer ++ t) × (live_place o key (newer ++ t) ≡ None)
+    IsNewKeyFor o key group (newer ++ t)
 
 -- the caller's row is filled, its key belongs between the two places, and the caller has leave to
 -- insert it
@@ -92,5 +92,5 @@ InsertTells b h group place next (linked.Raced row found) k =
 abbrev pub KeysWithoutAValueBelong : Type 0
 KeysWithoutAValueBelong =
     (o : Opening) (t : Execution) → Valid o t → (hand key group : ℕ) → IsCaller o hand →
-    HasNoneWhereSeenOpen o hand key group t ⊎ HasNoneBehindOpened o hand key group t →
+    HasNoneElsewhere o hand key group t →
     BelongsUntilLinked o hand group key t
