@@ -1,3 +1,5 @@
 pub mod Links
 pub mod Stepping
 pub mod Linking
+pub mod Carrying
+pub mod Entering

@@ -2,7 +2,8 @@
 --
 -- The fact to remember: between the two steps the hand itself did nothing but store the link, so what
 -- belonged there before belongs there still.
-use Rattle.std.proofs.Common.{append_assoc, ◌≡◌, ◌⊎◌, ℕ, ◌<◌, inl, inr, ⊎_elim, Option, Some, None, false, []}
+use Rattle.std.proofs.Common.{append_assoc, ◌≡◌, ◌⊎◌, ℕ, ◌<◌, inl, inr, ⊎_elim, Option, None}
+use Rattle.std.proofs.Common.{false, []}
 use Rattle.std.proofs.Common.{◌∷◌, ◌++◌, length, refl, sym, ap, ◌∙◌, subst, arith}
 use Rattle.map_model.specs.declared.entries.Change.{Change}
 use Rattle.map_model.specs.declared.entries.Change.TheVariants.{Put}
@@ -14,6 +15,7 @@ use Rattle.word_layout.specs.declared.places.Part.TheVariants.{Key, Link, State,
 use Rattle.word_layout.specs.declared.places.Part.{Part}
 use Rattle.word_layout.specs.Words.{PlaceWord}
 use Rattle.word_layout.specs.Places.{FitsPart, IsRow, part_address, part_of}
+use Rattle.index_machine.specs.declared.events.Action.{Action}
 use Rattle.index_machine.specs.declared.events.Action.TheVariants.{FailLink, LinkRow, StorePrivate}
 use Rattle.index_machine.specs.declared.opening.Opening.{Opening}
 use Rattle.index_machine.specs.Conditions.{Valid}
@@ -23,14 +25,13 @@ use Rattle.index_machine.specs.LivePlaces.{history, live_place, value_in_map}
 use Rattle.index_machine.specs.Permissions.{IsBufferFor, MayInsertInto}
 use Rattle.index_machine.specs.Places.{first_version}
 use Rattle.index_machine.specs.Rows.{InBuffer, role}
+use Rattle.index_machine.specs.Sections.{IsCaller, IsNoCrossing, StaysInside}
 use Rattle.index_machine.specs.Words.{limits, word}
 use Rattle.index_machine.proofs.Executions.{choice-same}
 use Rattle.machine_buffers.specs.Walks.{IsLinkBefore}
 use Rattle.machine_buffers.proofs.Leave.{leave_while}
-use Rattle.machine_places.specs.Agreement.{HasLiveValue}
-use Rattle.machine_places.proofs.Forms.{none_some}
-use Rattle.machine_places.proofs.FromOpening.{agreement}
 use Rattle.machine_readers.specs.Buffers.{rows}
+use Rattle.machine_readers.proofs.FromOpening.{gaps}
 use Rattle.machine_readers.proofs.ReadSections.{place_on}
 use Rattle.index_rule.specs.declared.board.Board.{Board}
 use Rattle.index_rule.specs.declared.hand.Hand.{Hand}
@@ -46,9 +47,12 @@ use Rattle.index_rule.proofs.RecordReading.{log_is, no_entry}
 use Rattle.index_rule.proofs.RecordStepping.{goes_on_inside, now, since}
 use Rattle.index_rule.proofs.Stepping.{held_word_is, known_is, others_only, still_holds}
 use Rattle.index_rule.proofs.Stepping.{valid_after}
+use Rattle.record_cell.proofs.Revivable.{KnowsNoneElsewhere, elsewhere_now, elsewhere_on}
+use Rattle.record_cell.proofs.Revivable.{lives_nowhere, not_in_map}
 use Rattle.row_arena.proofs.HeldRows.{other_word, stored_word, stores_part}
 use Rattle.delta_buffer.specs.Inserting.{CanInsert, InsertTells, Inserts, KeepsRow, OnlyStores}
-use Rattle.delta_buffer.specs.Inserting.{change_of}
+use Rattle.delta_buffer.specs.Inserting.{BelongsUntilLinked, IsPrivateStore}
+use Rattle.delta_buffer.specs.Inserting.{KeysWithoutAValueBelong, change_of}
 use Rattle.delta_buffer.specs.Searching.{CanSearch}
 use Rattle.delta_buffer.proofs.Stepping.{before_after, search_after}
 
@@ -63,16 +67,28 @@ only_joined c [] t out only = only
 only_joined c (e ∷ n) t out only =
     ((λ own. absurd (out.0 own)), only_joined c n t out.1 only)
 
--- ---- what a link may be ----
+-- stores into one's own row do not end a read section
+store_is_no_crossing : (d : Action) → IsPrivateStore d → IsNoCrossing d
+store_is_no_crossing (StorePrivate place part value) is = tt
+store_is_no_crossing d is = absurd is
 
--- a key without a live place is not in the map
-absent_from_map : (o : Opening) (t : Execution) → Valid o t → (k : ℕ) → live_place o k t ≡ None →
-    value_in_map o k t ≡ None
-absent_from_map o t valid k none = go (live_place o k t) none (agreement o t valid k)
-  where
-    go : (p : Option ℕ) → p ≡ None → HasLiveValue o t k p → value_in_map o k t ≡ None
-    go None e has = has
-    go (Some q) e has = none_some (sym e)
+stays_with_stores : (c : ℕ) (n : Execution) → OnlyStores c n → StaysInside c n
+stays_with_stores c [] only = tt
+stays_with_stores c (e ∷ n) only =
+    ((λ own. store_is_no_crossing e.action (only.0 own)), stays_with_stores c n only.1)
+
+pub belongs_elsewhere : (o : Opening) (t : Execution) (c k g : ℕ) → IsCaller o c →
+    KnowsNoneElsewhere o c k g t → BelongsUntilLinked o c g k t
+belongs_elsewhere o t c k g is before newer whole only gap =
+    let T : Execution = newer ++ t in
+    let none = elsewhere_on o c k g is newer t whole (stays_with_stores c newer only) before in
+    lives_nowhere o c k g T is whole none (λ p row. absurd (gaps o T whole g k gap p row))
+
+pub keys_belong : KeysWithoutAValueBelong
+keys_belong o t valid c k g is either =
+    belongs_elsewhere o t c k g is (elsewhere_now o c k g t is valid either)
+
+-- ---- what a link may be ----
 
 -- no row or a row can be stored in each part of a row
 pub fits_each : (l : Limits) (part : Part) (value : ℕ) → (value ≡ 0) ⊎ IsRow l value →
@@ -208,7 +224,7 @@ module _ (b : Board) (g place before next : ℕ) (h n : Hand) (can : CanSearch b
       was_absent =
           let d = LinkRow g place (change_of b h place) before next in
           let valid = valid_after b n k d m.of l in
-          absent_from_map (opening_of b) moment valid.1 (key_of (change_of b h place))
+          not_in_map (opening_of b) moment (key_of (change_of b h place)) valid.1
           valid.0.not_live_elsewhere
 
       adds : AddsChange b h (change_of b h place) None k

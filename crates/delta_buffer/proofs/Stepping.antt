@@ -1,5 +1,6 @@
 -- What a caller knows on its walk, after each load.
-use Rattle.std.proofs.Common.{Some, None, ◌≤◌, ◌≡◌, ◌≢◌, ◌⊎◌, ℕ, ◌<◌, inl, inr, ⊎_elim, true, false, Bool, cond, Some, []}
+use Rattle.std.proofs.Common.{Some, None, ◌≤◌, ◌≡◌, ◌≢◌, ◌⊎◌, ℕ, ◌<◌, inl, inr, ⊎_elim, true}
+use Rattle.std.proofs.Common.{false, Bool, cond, Some, []}
 use Rattle.std.proofs.Common.{◌∷◌, ◌++◌, refl, sym, ap, ◌∙◌, subst, arith}
 use Rattle.map_model.specs.Map.{look}
 use Rattle.index_machine.specs.declared.events.Action.{Action}
@@ -30,12 +31,13 @@ use Rattle.index_rule.proofs.RecordStepping.{still_at, still_reached, still_stan
 use Rattle.index_rule.proofs.Stepping.{known_is, still_holds_no_lock, valid_after, valid_known}
 use Rattle.delta_buffer.specs.Searching.{CanSearch, FindsFirst, FindsGap, IsReachedRow}
 use Rattle.delta_buffer.specs.Walks.{FollowsLink, IsWalkOf, Walks}
-use Rattle.delta_buffer.proofs.Links.{buffer_key, left_none, left_some, link_of_head, link_of_row, names_own}
+use Rattle.delta_buffer.proofs.Links.{buffer_key, left_none, left_some, link_of_head, link_of_row}
+use Rattle.delta_buffer.proofs.Links.{names_own}
 use Rattle.delta_buffer.proofs.Links.{rise_left, rises, row_some}
 
 -- ---- the loads of a walk ----
 
-no_crossing : (g : ℕ) (d : Action) → IsWalkOf g d → IsNoCrossing d
+pub no_crossing : (g : ℕ) (d : Action) → IsWalkOf g d → IsNoCrossing d
 no_crossing g (LoadHead h n) is = tt
 no_crossing g (LoadLink h p n) is = tt
 no_crossing g (LoadKey p n) is = tt

@@ -9,11 +9,12 @@ use Rattle.index_machine.specs.declared.events.Action.TheVariants.{FailLink, Lin
 use Rattle.index_machine.specs.declared.opening.Opening.{Opening}
 use Rattle.index_machine.specs.Conditions.{Valid}
 use Rattle.index_machine.specs.Execution.{Execution}
-use Rattle.index_machine.specs.LivePlaces.{live_place}
-use Rattle.index_machine.specs.Permissions.{IsBufferFor, MayInsertInto}
+use Rattle.index_machine.specs.Permissions.{MayInsertInto}
 use Rattle.index_machine.specs.Rows.{InBuffer, role}
+use Rattle.index_machine.specs.Sections.{IsCaller}
 use Rattle.index_machine.specs.Words.{word}
 use Rattle.machine_readers.specs.Buffers.{rows}
+use Rattle.machine_buffers.specs.Inserting.{IsNewKeyFor}
 use Rattle.index_rule.specs.declared.board.Board.{Board}
 use Rattle.index_rule.specs.declared.hand.Hand.{Hand}
 use Rattle.index_rule.specs.declared.swap.Linked.{Linked}
@@ -22,6 +23,7 @@ use Rattle.index_rule.specs.Buffers.{IsFilled, inserted_by, key_in}
 use Rattle.index_rule.specs.Hands.{MakesAll, known, opening_of}
 use Rattle.index_rule.specs.Moments.{AddsChange, AddsNoEntry}
 use Rattle.index_rule.specs.OwnRows.{place_of_private}
+use Rattle.record_cell.specs.Reviving.{HasNoneElsewhere}
 use Rattle.delta_buffer.specs.Searching.{BelongsBetween}
 
 -- ---- what it needs ----
@@ -42,7 +44,7 @@ abbrev pub BelongsUntilLinked : Opening → ℕ → ℕ → ℕ → Execution �
 BelongsUntilLinked o hand group key t =
     (newer : Execution) → Valid o (newer ++ t) → OnlyStores hand newer →
     look (rows group (newer ++ t)) key ≡ None →
-    IsBufferFor o key group (newer ++ t) × (live_place o key (newer ++ t) ≡ None)
+    IsNewKeyFor o key group (newer ++ t)
 
 -- the caller's row is filled, its key belongs between the two places, and the caller has leave to
 -- insert it
@@ -82,3 +84,13 @@ InsertTells b h group place next linked.Done k =
     ≡ InBuffer group (key_in (opening_of b) place (known h)))
 InsertTells b h group place next (linked.Raced row found) k =
     AddsNoEntry h k × KeepsRow b h place next k
+
+-- ---- the law ----
+
+-- a key of which a caller knows in its read section that it has no value elsewhere, as for a revival,
+-- belongs into the buffer until it is linked
+abbrev pub KeysWithoutAValueBelong : Type 0
+KeysWithoutAValueBelong =
+    (o : Opening) (t : Execution) → Valid o t → (hand key group : ℕ) → IsCaller o hand →
+    HasNoneElsewhere o hand key group t →
+    BelongsUntilLinked o hand group key t

@@ -7,8 +7,12 @@
 mod answers;
 mod finding;
 mod inserting;
+mod laws;
+#[cfg(test)]
+mod tests;
 mod walking;
 
 pub use answers::Found;
 pub use finding::{find, first_from};
 pub use inserting::insert;
+pub use laws::keys_without_a_value_belong;

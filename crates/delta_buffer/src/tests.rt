@@ -1,0 +1,117 @@
+//! A row is linked where its key was not found, and is found then.
+ghost use Rattle.std.specs.Prelude.{◌≡◌};
+ghost use Rattle.index_rule.specs.Opened.{AreNewHands};
+ghost use Rattle.index_rule.specs.OwnRows.{place_of_private};
+ghost use Rattle.row_arena.specs.Visits.{IsNew};
+ghost use Rattle.delta_buffer.specs.Searching.{CanSearch};
+ghost use Rattle.delta_buffer.specs.Visits.{IsAtGroup, IsEmptyBoard, IsInside};
+
+use super::*;
+use index_rule::{Board, Hand, Linked, OwnRow, PrivateRow};
+use row_arena::{Taken, fill, take};
+use std::alloc::Global;
+use std::process::Abort;
+use word_layout::Limits;
+
+// A board of one caller without a key.
+fn opened(rt: &impl Abort, alloc: Global) -> (Board, Vec<Hand>)
+    ensures board { IsEmptyBoard result.0 }
+    ensures hands { AreNewHands result.0 0 result.1.items }
+{
+    let limits = Limits {
+        callers: 1,
+        records: 2,
+        groups: 2,
+        group_size: 8,
+        slots: 1,
+        due: 1,
+        help: 1,
+        chain: 1,
+        first_version: 0,
+    };
+    let Ok(layout) = limits.layout() else {
+        panic!(rt; "the limits are kept");
+    };
+    let Ok(opened) = Board::open(alloc, &layout, &[]) else {
+        panic!(rt; "there is memory");
+    };
+    opened
+}
+
+// The hand of the caller.
+fn first_hand(rt: &impl Abort, _board: &Board, hands: Vec<Hand>) -> Hand
+    requires { AreNewHands _board.now 0 hands.items }
+    ensures { IsNew _board.now 0 result }
+{
+    match hands.into_iter().next() {
+        Some(hand) => hand,
+        None => panic!(rt; "there are two hands"),
+    }
+}
+
+// The caller enters, and takes a row and fills it.
+fn enter_with_row(rt: &impl Abort, board: &Board, hand: &mut Hand) -> PrivateRow
+    requires board { IsEmptyBoard board.now }
+    requires new { IsNew board.now 0 hand.old }
+    ensures { IsInside board.now (place_of_private result) hand.new }
+{
+    board.store_enter(hand);
+    let mut row = match take(board, hand) {
+        Taken::Row(row) => row,
+        Taken::Empty | Taken::Raced { .. } => panic!(rt; "a row is free"),
+    };
+    fill(board, hand, &mut row, 7, 70);
+    row
+}
+
+// The caller comes to group 0 by the root, and sees that it is open.
+fn come_to_group(board: &Board, hand: &mut Hand, _row: &PrivateRow)
+    requires board { IsEmptyBoard board.now }
+    requires inside { IsInside board.now (place_of_private _row.now) hand.old }
+    ensures { IsAtGroup board.now (place_of_private _row.now) hand.new }
+{
+    board.load_root(hand);
+    board.load_slot_group(hand, 0, 0);
+    board.load_phase(hand, 0);
+}
+
+// The caller links the row where its key was not found.
+fn link(rt: &impl Abort, board: &Board, hand: &mut Hand, row: PrivateRow)
+    requires { IsAtGroup board.now (place_of_private row) hand.old }
+    ensures { CanSearch board.now 0 hand.new }
+{
+    let Found::Gap { before, next } = find(board, hand, 0, 7) else {
+        panic!(rt; "the key is not there");
+    };
+    assert_eq!(rt; (before, next), (0, 0));
+    match insert(board, hand, 0, before, next, row) {
+        Linked::Done => {}
+        Linked::Raced { row, .. } => {
+            row.forget();
+            panic!(rt; "nobody else is there");
+        }
+    }
+}
+
+#[test]
+fn a_row_is_found_once_it_is_linked(rt: HostRuntime) {
+    let (board, hands) = opened(&rt, rt.alloc());
+    let mut hand = first_hand(&rt, &board, hands);
+    let row = enter_with_row(&rt, &board, &mut hand);
+    let place = row.place();
+    come_to_group(&board, &mut hand, &row);
+    link(&rt, &board, &mut hand, row);
+    assert_eq!(rt; find(&board, &mut hand, 0, 7), Found::Row(place));
+    let ahead = Found::Gap {
+        before: 0,
+        next: place,
+    };
+    assert_eq!(rt; find(&board, &mut hand, 0, 6), ahead);
+    let behind = Found::Gap {
+        before: place,
+        next: 0,
+    };
+    assert_eq!(rt; find(&board, &mut hand, 0, 8), behind);
+    assert_eq!(rt; first_from(&board, &mut hand, 0, 6), Some(place));
+    assert_eq!(rt; first_from(&board, &mut hand, 0, 8), None);
+}
