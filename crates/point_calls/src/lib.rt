@@ -10,6 +10,8 @@ mod lookup;
 mod overwriting;
 mod putting;
 mod removing;
+#[cfg(test)]
+mod tests;
 
 pub use getting::get;
 pub use putting::put;
