@@ -17,12 +17,26 @@ pub enum Tried<T> {
 #[derive(Clone, Copy, Debug, PartialEq, Eq)]
 pub enum Why {
     /// The version lock was held, by this state word.
-    Locked { place: u32, word: u64 },
+    Locked {
+        place: u32,
+        word: u64,
+    },
     /// The state word at the place was the first of these, and then the second.
-    Changed { place: u32, first: u64, second: u64 },
+    Changed {
+        place: u32,
+        first: u64,
+        second: u64,
+    },
     /// The group takes no new keys, by this phase word.
-    Frozen { group: u32, word: u64 },
+    Frozen {
+        group: u32,
+        word: u64,
+    },
     /// The word at this place, or behind it, was expected to be one and found to be another. 0 is the
     /// head of the free stack.
-    Raced { place: u32, expected: u64, found: u64 },
+    Raced {
+        place: u32,
+        expected: u64,
+        found: u64,
+    },
 }

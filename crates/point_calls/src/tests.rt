@@ -59,7 +59,6 @@ fn a_key_is_put_and_removed_until_no_row_is_free(rt: HostRuntime) {
     let mut hand = caller_of(&rt, &board, hands);
     enter(&board, &mut hand);
     let mut spare = None;
-    assert_eq!(rt; get(&board, &mut hand, 5), Tried::Done(None));
     let new = put(&board, &mut hand, &mut spare, 5, 50);
     assert_eq!(rt; new, Tried::Done(None));
     let old = put(&board, &mut hand, &mut spare, 5, 51);
