@@ -5,6 +5,7 @@ use Rattle.word_layout.specs.declared.headers.HeaderWord.TheVariants as header
 use Rattle.word_layout.specs.declared.places.Part.TheVariants as part
 use Rattle.word_layout.specs.Words.{Header, PlaceWord}
 use Rattle.word_layout.proofs.RowPlaces.{row-nonzero}
+use Rattle.index_machine.specs.declared.events.Action.TheVariants.{LoadLink}
 use Rattle.index_machine.specs.declared.opening.Opening.{Opening}
 use Rattle.index_machine.specs.Conditions.{Valid}
 use Rattle.index_machine.specs.Execution.{Execution}
@@ -20,6 +21,7 @@ use Rattle.machine_buffers.proofs.Walks.{next_rows, rise}
 use Rattle.machine_readers.specs.Buffers.{rows}
 use Rattle.index_rule.specs.Records.{key_at, or_zero}
 use Rattle.index_rule.proofs.RecordSteps.{place_below}
+use Rattle.delta_buffer.specs.Walks.{load_of_link}
 
 -- a row of a buffer is not place 0
 pub row_some : (o : Opening) (t : Execution) (g p k : ℕ) → Valid o t →
@@ -41,6 +43,11 @@ link_of_row g (suc n) some = refl
 
 pub link_of_head : (g p : ℕ) → p ≡ 0 → link_behind g p ≡ Header g header.BufferHead
 link_of_head g p e = ap (link_behind g) e
+
+-- its load
+pub load_of_row : (g p q : ℕ) → p ≢ 0 → load_of_link g p q ≡ LoadLink g p q
+load_of_row g zero q some = absurd (some refl)
+load_of_row g (suc n) q some = refl
 
 -- a link names the place to which it leads
 pub names_own : (p : ℕ) → p ≢ 0 → names_place p p ≡ true

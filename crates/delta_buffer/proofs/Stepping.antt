@@ -7,13 +7,13 @@ use Rattle.index_machine.specs.declared.events.Action.{Action}
 use Rattle.index_machine.specs.declared.events.Action.TheVariants.{LoadHead, LoadKey, LoadLink}
 use Rattle.index_machine.specs.declared.opening.Opening.{Opening}
 use Rattle.index_machine.specs.Conditions.{Valid}
-use Rattle.index_machine.specs.Execution.{Execution}
+use Rattle.index_machine.specs.Execution.{Continues, Execution}
 use Rattle.index_machine.specs.Reaching.{reached, reached_after}
 use Rattle.index_machine.specs.RecordConditions.{IsAt, IsLinkInto}
 use Rattle.index_machine.specs.Rows.{InBuffer, role, role_key}
 use Rattle.index_machine.specs.Sections.{IsNoCrossing}
 use Rattle.index_machine.specs.Words.{link_behind, word}
-use Rattle.index_machine.proofs.Executions.{continues_same, own_step}
+use Rattle.index_machine.proofs.Executions.{continues_same, continues_trans, own_step}
 use Rattle.index_machine.proofs.Holders.{TakesLock}
 use Rattle.machine_buffers.specs.Walks.{Decides, IsLinkBefore, IsWalkable}
 use Rattle.machine_buffers.proofs.Walks.{decide, stay_before, walkable_while}
@@ -30,9 +30,10 @@ use Rattle.index_rule.proofs.RecordStepping.{goes_on_inside, now, same_role, sin
 use Rattle.index_rule.proofs.RecordStepping.{still_at, still_reached, still_stands}
 use Rattle.index_rule.proofs.Stepping.{known_is, still_holds_no_lock, valid_after, valid_known}
 use Rattle.delta_buffer.specs.Searching.{CanSearch, FindsFirst, FindsGap, IsReachedRow}
-use Rattle.delta_buffer.specs.Walks.{FollowsLink, IsWalkOf, Walks}
+use Rattle.delta_buffer.specs.Walks.{FollowsLink, HasJustMade, IsWalkOf, Walks, load_of_link}
+use Rattle.delta_buffer.proofs.CallSteps.{begun_since, just_made}
 use Rattle.delta_buffer.proofs.Links.{buffer_key, left_none, left_some, link_of_head, link_of_row}
-use Rattle.delta_buffer.proofs.Links.{names_own}
+use Rattle.delta_buffer.proofs.Links.{load_of_row, names_own}
 use Rattle.delta_buffer.proofs.Links.{rise_left, rises, row_some}
 
 -- ---- the loads of a walk ----
@@ -103,6 +104,7 @@ pub record IsOn (b : Board) (g key before next : ℕ) (h m : Hand) : Type 0 wher
   pub number : m.number ≡ h.number
   pub log : AddsNoEntry h m
   pub walks : Walks b g h m
+  pub loaded : HasJustMade h (load_of_link g before next) (known m)
   pub begun : HasBegun h (known m)
   pub valid : Valid (opening_of b) (known m)
   pub leads : word (opening_of b) (known m) (link_behind g before) ≡ next
@@ -174,17 +176,19 @@ module _ (b : Board) (g before next : ℕ) (i k : Hand) (can : CanSearch b g i) 
 
 -- a link was loaded on the walk to a key that it stands before
 pub arrives : (b : Board) (g key before next : ℕ) (h i k : Hand) → CanSearch b g i →
-    i.number ≡ h.number → AddsNoEntry h i → Walks b g h i →
+    i.number ≡ h.number → Continues (known h) (known i) → AddsNoEntry h i → Walks b g h i →
     ((d : Action) → Makes b i d k → HasBegun h (known k)) →
     IsLinkBefore (opening_of b) g key before (known i) → FollowsLink b i g before next k →
     IsOn b g key before next h k
-arrives b g key before next h i k can same log walks begun behind follows =
+arrives b g key before next h i k can same since log walks begun behind follows =
     ⊎_elim
     (λ (z : (before ≡ 0) × Makes b i (LoadHead g next) k). record {
       search = search_on b g i k (LoadHead g next) refl z.1 can;
       number = z.1.number ∙ same;
       log = log_on b g i k (LoadHead g next) refl z.1 h can.of log;
       walks = walks_on b g i k (LoadHead g next) refl z.1 h walks;
+      loaded = subst (λ (x : ℕ). HasJustMade h (load_of_link g x next) (known k)) (sym z.0)
+          (just_made b h i k (LoadHead g next) since same can.of z.1);
       begun = begun (LoadHead g next) z.1;
       valid = valid_known b i k (LoadHead g next) can.of z.1;
       leads = head_leads b g before next i k can z.1 z.0;
@@ -196,6 +200,9 @@ arrives b g key before next h i k can same log walks begun behind follows =
       number = z.number ∙ same;
       log = log_on b g i k (LoadLink g before next) refl z h can.of log;
       walks = walks_on b g i k (LoadLink g before next) refl z h walks;
+      loaded = subst (λ (d : Action). HasJustMade h d (known k))
+          (sym (load_of_row g before next (row_is_some b g before next i k can z)))
+          (just_made b h i k (LoadLink g before next) since same can.of z);
       begun = begun (LoadLink g before next) z;
       valid = valid_known b i k (LoadLink g before next) can.of z;
       leads = row_leads b g before next i k can z (row_is_some b g before next i k can z);
@@ -208,7 +215,8 @@ arrives b g key before next h i k can same log walks begun behind follows =
 pub sets_out : (b : Board) (g key next : ℕ) (h k : Hand) → CanSearch b g h →
     FollowsLink b h g 0 next k → IsOn b g key 0 next h k
 sets_out b g key next h k can follows =
-    arrives b g key 0 next h h k can refl refl ([], tt, refl) (λ d m. begins b h k d can.of m)
+    arrives b g key 0 next h h k can refl (continues_same (known h)) refl ([], tt, refl)
+    (λ d m. begins b h k d can.of m)
     (inl refl) follows
 
 -- ---- what the link says ----
@@ -222,7 +230,7 @@ before_more o g key j p t le behind =
     let lt = z.2 in inr (z.0, z.1, omega arith)) behind
 
 -- so none of these has a row that comes before the one to which it leads
-empty_from : (b : Board) (g key before next : ℕ) (h m : Hand) → IsOn b g key before next h m →
+pub empty_from : (b : Board) (g key before next : ℕ) (h m : Hand) → IsOn b g key before next h m →
     (j : ℕ) → key ≤ j → IsBehindKey (opening_of b) g j next (known m) →
     look (rows g (known m)) j ≡ None
 empty_from b g key before next h m on j le ahead =
@@ -297,6 +305,7 @@ module _ (b : Board) (g key before next met : ℕ) (h m n : Hand)
   found_gap lt =
       record {
         moment = known m;
+        loaded = on.loaded;
         within = is_within h n (known m) on.begun
             (goes_on b m n (LoadKey next met) on.search.of l);
         absent = empty_from b g key before next h m on key (omega arith) (inr (met, is_of, lt));
@@ -325,6 +334,8 @@ module _ (b : Board) (g key before next met : ℕ) (h m n : Hand)
       arrives b g key next next2 h n k
       (search_on b g m n (LoadKey next met) tt l on.search)
       (l.number ∙ on.number)
+      (continues_trans (known h) (known m) (known n) (begun_since h (known m) on.begun)
+      (goes_on b m n (LoadKey next met) on.search.of l))
       (log_on b g m n (LoadKey next met) tt l h on.search.of on.log)
       (walks_on b g m n (LoadKey next met) tt l h on.walks)
       (λ d q. begun_on h (known n) (known k)
@@ -375,6 +386,7 @@ pub found_end : (b : Board) (g key before next : ℕ) (h m : Hand) →
 found_end b g key before next h m on none =
     record {
       moment = known m;
+      loaded = on.loaded;
       within = is_within h m (known m) on.begun (continues_same (known m));
       absent = empty_from b g key before next h m on key (omega arith) (inl none);
       leads = on.leads;

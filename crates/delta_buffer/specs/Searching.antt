@@ -17,6 +17,7 @@ use Rattle.index_rule.specs.Hands.{IsHandOf, known, opening_of}
 use Rattle.index_rule.specs.Moments.{IsWithin}
 use Rattle.delta_buffer.specs.declared.answers.Found.{Found}
 use Rattle.delta_buffer.specs.declared.answers.Found.TheVariants as found
+use Rattle.delta_buffer.specs.Walks.{HasJustMade, load_of_link}
 
 -- the caller stands in the group, a walk meets all rows of its buffer, and it holds no version lock
 pub record CanSearch (b : Board) (group : ℕ) (h : Hand) : Type 0 where
@@ -46,9 +47,10 @@ pub record IsEmptyUpTo (o : Opening) (group key next : ℕ) (moment later : Exec
       (k : ℕ) → key ≤ k → k < first → look (rows group moment) k ≡ None
   pub end : next ≡ 0 → (k : ℕ) → key ≤ k → look (rows group moment) k ≡ None
 
--- at a moment of the call the link between these two places decided: the key had no row
+-- the call loaded the link between these two places, and just then the key had no row
 pub record FindsGap (b : Board) (group key before next : ℕ) (h k : Hand) : Type 0 where
   pub moment : Execution
+  pub loaded : HasJustMade h (load_of_link group before next) moment
   pub within : IsWithin h k moment
   pub absent : look (rows group moment) key ≡ None
   pub leads : word (opening_of b) moment (link_behind group before) ≡ next

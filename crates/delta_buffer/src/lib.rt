@@ -5,6 +5,7 @@
 #![tactic(auto)]
 
 mod answers;
+mod counting;
 mod finding;
 mod inserting;
 mod laws;
@@ -13,6 +14,7 @@ mod tests;
 mod walking;
 
 pub use answers::Found;
+pub use counting::count;
 pub use finding::{find, first_from};
 pub use inserting::insert;
 pub use laws::keys_without_a_value_belong;

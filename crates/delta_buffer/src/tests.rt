@@ -114,4 +114,15 @@ fn a_row_is_found_once_it_is_linked(rt: HostRuntime) {
     assert_eq!(rt; find(&board, &mut hand, 0, 8), behind);
     assert_eq!(rt; first_from(&board, &mut hand, 0, 6), Some(place));
     assert_eq!(rt; first_from(&board, &mut hand, 0, 8), None);
+    assert_eq!(rt; count(&board, &mut hand, 0), 1);
+}
+
+#[test]
+fn a_buffer_without_a_row_counts_none(rt: HostRuntime) {
+    let (board, hands) = opened(&rt, rt.alloc());
+    let mut hand = first_hand(&rt, &board, hands);
+    let row = enter_with_row(&rt, &board, &mut hand);
+    come_to_group(&board, &mut hand, &row);
+    assert_eq!(rt; count(&board, &mut hand, 0), 0);
+    row.forget();
 }

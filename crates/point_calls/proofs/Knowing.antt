@@ -1,19 +1,20 @@
 -- What a hand knows within a call, after each of its steps.
 use Rattle.std.proofs.Common.{◌≡◌, ℕ, Option, Some, None, [], ◌∷◌, ◌++◌, refl, sym, ap, ◌∙◌, subst}
-use Rattle.std.proofs.Common.{List}
+use Rattle.std.proofs.Common.{List, true}
 use Rattle.map_model.specs.declared.entries.Change.{Change}
 use Rattle.map_model.specs.declared.entries.Entry.TheVariants.{Look, Made}
 use Rattle.map_model.specs.Answer.{pair_at}
 use Rattle.map_model.specs.Logs.{Log}
 use Rattle.std.specs.Prelude.{length}
 use Rattle.index_machine.specs.declared.events.Action.{Action}
-use Rattle.index_machine.specs.declared.events.Action.TheVariants.{LoadHead, LoadKey, LoadLink}
+use Rattle.index_machine.specs.declared.events.Action.TheVariants.{Enter, Leave, LoadHead, LoadKey}
+use Rattle.index_machine.specs.declared.events.Action.TheVariants.{LoadLink}
 use Rattle.index_machine.specs.Conditions.{Valid}
 use Rattle.index_machine.specs.Execution.{Continues, Execution, event}
 use Rattle.index_machine.specs.LivePlaces.{history}
 use Rattle.index_machine.specs.RecordConditions.{HoldsNoLock}
 use Rattle.index_machine.specs.Rows.{Holds, HoldsNone}
-use Rattle.index_machine.specs.Sections.{IsNoCrossing, IsReading}
+use Rattle.index_machine.specs.Sections.{IsNoCrossing, IsReading, crossings, crossings_after}
 use Rattle.index_machine.proofs.Executions.{continues_trans, valid_before}
 use Rattle.index_machine.proofs.Holders.{TakesLock}
 use Rattle.index_machine.proofs.Placing.{KeepsRoles}
@@ -29,10 +30,14 @@ use Rattle.index_rule.specs.OwnRows.{place_of_private}
 use Rattle.index_rule.proofs.Calls.{HasBegun, begins, begun_on, goes_on, up_to}
 use Rattle.index_rule.proofs.Logging.{built_before}
 use Rattle.index_rule.proofs.RecordStepping.{still_inside}
-use Rattle.index_rule.proofs.Stepping.{built_known, known_is, still_holds, still_holds_no_lock}
+use Rattle.index_rule.proofs.Stepping.{built_known, crossings_is, known_is, still_holds}
+use Rattle.index_rule.proofs.Stepping.{still_holds_no_lock}
 use Rattle.index_rule.proofs.Stepping.{still_holds_none, valid_known}
-use Rattle.delta_buffer.specs.Walks.{AreWalkOf, IsWalkOf}
-use Rattle.point_calls.specs.PointCalls.{CanCall, HasSpare, KeepsRows, LooksUp, MakesIn}
+use Rattle.delta_buffer.specs.Walks.{AreWalkOf, IsWalkOf, MakesIn}
+use Rattle.delta_buffer.proofs.CallSteps.{made_in_call}
+use Rattle.delta_buffer.proofs.Stepping.{no_crossing}
+use Rattle.point_calls.specs.PointCalls.{CanCall, HasSpare, IsOneSection, KeepsRows, LooksUp}
+use Rattle.point_calls.specs.PointCalls.{MakesThen}
 
 -- ---- one step ----
 
@@ -52,10 +57,17 @@ call_on b h k d none free m can =
       holds_none = still_holds_no_lock b h k d can.of m free can.holds_none;
     }
 
--- the step is one of the call
-pub made : (b : Board) (h k : Hand) (d : Action) → IsHandOf b h → Makes b h d k → MakesIn h d k
-made b h k d of m =
-    (m.acts.0 ++ known h, up_to b h k d of m, ([], sym (known_is b h k d of m)))
+-- a step that is no entry and no exit leaves the count of crossings
+same_count : (d : Action) (count : ℕ) → IsNoCrossing d → crossings_after true d count ≡ count
+same_count (Enter n) count none = absurd none
+same_count (Leave n) count none = absurd none
+same_count d count none = refl
+
+-- so the call stays within its read section
+pub section_on : (b : Board) (start h k : Hand) (d : Action) → IsNoCrossing d → IsHandOf b h →
+    Makes b h d k → IsOneSection start h → IsOneSection start k
+section_on b start h k d none of m same =
+    crossings_is b h k d of m ∙ (same_count d (crossings h.number (known h)) none ∙ same)
 
 -- ---- several steps ----
 
@@ -68,11 +80,12 @@ pub record IsIn (b : Board) (start h : Hand) : Type 0 where
   pub built : AreBuilt (known h)
   pub since : Continues (known start) (known h)
   pub rows : KeepsRows b start h
+  pub section : IsOneSection start h
 
 -- behind its first step
-pub in_first : (b : Board) (h k : Hand) (d : Action) → KeepsRoles d → IsHandOf b h →
-    Makes b h d k → IsIn b h k
-in_first b h k d keeps of m =
+pub in_first : (b : Board) (h k : Hand) (d : Action) → IsNoCrossing d → KeepsRoles d →
+    IsHandOf b h → Makes b h d k → IsIn b h k
+in_first b h k d none keeps of m =
     record {
       of = m.of;
       number = m.number;
@@ -81,12 +94,13 @@ in_first b h k d keeps of m =
       built = built_known b h k d of m;
       since = goes_on b h k d of m;
       rows = λ spare has. spare_on b h k d of m keeps spare has;
+      section = section_on b h h k d none of m refl;
     }
 
 -- and behind each further one
-pub in_step : (b : Board) (start h k : Hand) (d : Action) → KeepsRoles d → Makes b h d k →
-    IsIn b start h → IsIn b start k
-in_step b start h k d keeps m i =
+pub in_step : (b : Board) (start h k : Hand) (d : Action) → IsNoCrossing d → KeepsRoles d →
+    Makes b h d k → IsIn b start h → IsIn b start k
+in_step b start h k d none keeps m i =
     record {
       of = m.of;
       number = m.number ∙ i.number;
@@ -95,6 +109,7 @@ in_step b start h k d keeps m i =
       built = built_known b h k d i.of m;
       since = continues_trans (known start) (known h) (known k) i.since (goes_on b h k d i.of m);
       rows = λ spare has. spare_on b h k d i.of m keeps spare (i.rows spare has);
+      section = section_on b start h k d none i.of m i.section;
     }
 
 walk_keeps : (g : ℕ) (d : Action) → IsWalkOf g d → KeepsRoles d
@@ -108,20 +123,20 @@ pub in_walk : (b : Board) (g : ℕ) (start h : Hand) (actions : List Action) (k 
     AreWalkOf g actions → MakesAll b h actions k → IsIn b start h → IsIn b start k
 in_walk b g start h [] k are all i = subst (IsIn b start) (sym all) i
 in_walk b g start h (d ∷ actions) k are all i =
-    in_step b start all.0 k d (walk_keeps g d are.0) all.2
+    in_step b start all.0 k d (no_crossing g d are.0) (walk_keeps g d are.0) all.2
     (in_walk b g start h actions all.0 are.1 all.1 i)
 
--- none of the actions takes a row or gives one
+-- none of the actions enters or leaves, takes a row or gives one
 abbrev pub AreKept : List Action → Type 0
 AreKept [] = Unit {0}
-AreKept (d ∷ actions) = KeepsRoles d × AreKept actions
+AreKept (d ∷ actions) = IsNoCrossing d × KeepsRoles d × AreKept actions
 
 -- behind several steps
 pub in_all : (b : Board) (start h : Hand) (actions : List Action) (k : Hand) → AreKept actions →
     MakesAll b h actions k → IsIn b start h → IsIn b start k
 in_all b start h [] k kept all i = subst (IsIn b start) (sym all) i
 in_all b start h (d ∷ actions) k kept all i =
-    in_step b start all.0 k d kept.0 all.2 (in_all b start h actions all.0 kept.1 all.1 i)
+    in_step b start all.0 k d kept.0 kept.1 all.2 (in_all b start h actions all.0 kept.2 all.1 i)
 
 -- and what it walked over is behind what it knew
 pub walk_since : (b : Board) (g : ℕ) (start h : Hand) (actions : List Action) (k : Hand) →
@@ -135,18 +150,20 @@ walk_since b g start h (d ∷ actions) k are all i =
 -- a step that was made after the call began is one of the call
 pub made_in : (b : Board) (start h k : Hand) (d : Action) → IsIn b start h → Makes b h d k →
     MakesIn start d k
-made_in b start h k d i m = (
-  m.acts.0 ++ known h,
-  continues_trans (known start) (known h) (m.acts.0 ++ known h) i.since (up_to b h k d i.of m),
-  subst (λ (z : ℕ). Continues (event z d ∷ m.acts.0 ++ known h) (known k)) i.number
-      ([], sym (known_is b h k d i.of m)),
-)
+made_in b start h k d i m = made_in_call b start h k d i.since i.number i.of m
 
--- and stays one
-pub made_on : (start h k : Hand) (d : Action) → MakesIn start d h → Continues (known h) (known k) →
-    MakesIn start d k
-made_on start h k d m on =
-    (m.0, m.1, continues_trans (event start.number d ∷ m.0) (known h) (known k) m.2 on)
+-- it was made behind one that was made before
+pub made_behind : (b : Board) (start h k : Hand) (first d : Action) → h.number ≡ start.number →
+    IsHandOf b h → MakesIn start first h → Makes b h d k → MakesThen start first d k
+made_behind b start h k first d same of one m = (
+  one.0,
+  m.acts.0 ++ known h,
+  one.1,
+  continues_trans (event start.number first ∷ one.0) (known h) (m.acts.0 ++ known h) one.2
+      (up_to b h k d of m),
+  subst (λ (z : ℕ). Continues (event z d ∷ m.acts.0 ++ known h) (known k)) same
+      ([], sym (known_is b h k d of m)),
+)
 
 -- ---- moments ----
 
@@ -162,13 +179,13 @@ within_on start h k moment w on = (
   continues_trans moment (known h) (known k) w.5 on,
 )
 
--- a moment of a later part of the call is one of the call
-pub within_whole : (b : Board) (start h k : Hand) (moment : Execution) → IsIn b start h →
+-- a moment of a later part of the call is one of the call, where the hand had begun it
+pub within_begun : (start h k : Hand) (moment : Execution) → HasBegun start (known h) →
     IsWithin h k moment → IsWithin start k moment
-within_whole b start h k moment i w =
+within_begun start h k moment had w =
     let here : Continues (known h) moment =
     continues_trans (known h) (w.1 ++ known h) moment (w.1, refl) w.4 in
-    let begun : HasBegun start moment = begun_on start (known h) moment i.begun here in (
+    let begun : HasBegun start moment = begun_on start (known h) moment had here in (
       begun.0,
       begun.1,
       begun.2,
@@ -179,6 +196,10 @@ within_whole b start h k moment i w =
           (event start.number begun.0 ∷ [], refl) begun.3,
       w.5,
     )
+
+pub within_whole : (b : Board) (start h k : Hand) (moment : Execution) → IsIn b start h →
+    IsWithin h k moment → IsWithin start k moment
+within_whole b start h k moment i w = within_begun start h k moment i.begun w
 
 -- a change that a later part of the call added is one that the call added
 pub adds_whole : (b : Board) (start h k : Hand) (change same : Change) (old : Option ℕ) →
@@ -220,6 +241,10 @@ module _ (b : Board) (start h k : Hand) (key : ℕ) (found : Option ℕ)
         reading = stays (IsReading (opening_of b)) can.reading;
         holds_none = stays (HoldsNoLock (opening_of b)) can.holds_none;
       }
+
+  pub section_noted : IsOneSection start h → IsOneSection start k
+  section_noted same =
+      stays (λ z t. crossings z t ≡ crossings start.number (known start)) same
 
   pub spare_noted : (spare : Option PrivateRow) → HasSpare b h spare → HasSpare b k spare
   spare_noted (Some row) held =

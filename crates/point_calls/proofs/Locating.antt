@@ -39,8 +39,8 @@ module _ (b : Board) (h m : Hand) (word : ℕ) (can : CanCall b h) (loads : Make
 
       pub in_located : IsIn b h k
       in_located =
-          in_step b h m k (LoadSlotGroup 0 0 group) tt names
-          (in_first b h m (LoadRoot word) tt can.of loads)
+          in_step b h m k (LoadSlotGroup 0 0 group) tt tt names
+          (in_first b h m (LoadRoot word) tt tt can.of loads)
 
       pub comes_to : ComesTo b h group k
       comes_to =

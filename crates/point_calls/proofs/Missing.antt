@@ -91,7 +91,7 @@ in_comes b h k g of comes =
     let m : Hand = s.0 in
     let loads : Makes b h (LoadRoot comes.root) m =
     subst (λ (z : Hand). Makes b z (LoadRoot comes.root) m) s.1.1 s.1.2 in
-    in_step b h m k (LoadSlotGroup 0 0 g) tt s.2 (in_first b h m (LoadRoot comes.root) tt of loads)
+    in_step b h m k (LoadSlotGroup 0 0 g) tt tt s.2 (in_first b h m (LoadRoot comes.root) tt tt of loads)
 
 -- the key was missed
 pub missed : (b : Board) (start h : Hand) (g key : ℕ) → IsHandOf b start → IsIn b start h →
@@ -112,6 +112,7 @@ missed b start h g key of i can none own moment within absent =
       exists = can;
       no_entry = none;
       rows = i.rows;
+      section = i.section;
       moment = moment;
       within = within;
       absent = absent;

@@ -26,7 +26,7 @@ use Rattle.index_rule.proofs.BuiltLaws.{groups_as_opened}
 use Rattle.delta_buffer.specs.Inserting.{BelongsUntilLinked, CanInsert, IsPrivateStore, OnlyStores}
 use Rattle.delta_buffer.specs.Searching.{BelongsBetween}
 use Rattle.point_calls.proofs.RowPutting.{group_seen, is_in, seen_open}
-use Rattle.index_machine.specs.Execution.{Continues, Execution, event}
+use Rattle.index_machine.specs.Execution.{Continues, Execution}
 use Rattle.index_machine.specs.Reaching.{saw_open}
 use Rattle.index_machine.specs.Rows.{HeldBy, Holds, HoldsNone, InBuffer, role}
 use Rattle.index_machine.specs.Sections.{IsNoCrossing, StaysInside}
@@ -37,14 +37,17 @@ use Rattle.index_rule.specs.declared.board.Board.{Board}
 use Rattle.index_rule.specs.declared.hand.Hand.{Hand}
 use Rattle.index_rule.specs.Hands.{IsHandOf, Makes, known, opening_of}
 use Rattle.index_rule.proofs.BufferStepping.{still_row}
-use Rattle.index_rule.proofs.Calls.{HasBegun, begun_on, goes_on, is_within, up_to}
+use Rattle.index_rule.proofs.Calls.{HasBegun, begun_on, goes_on, is_within}
 use Rattle.index_rule.proofs.RecordReading.{KeepsLog, no_entry}
 use Rattle.index_rule.proofs.RecordStepping.{goes_on_inside, now, since}
-use Rattle.index_rule.proofs.Stepping.{built_known, known_is, valid_after, valid_known}
+use Rattle.index_rule.proofs.Stepping.{built_known, valid_after, valid_known}
+use Rattle.delta_buffer.specs.Walks.{MakesIn, load_of_link}
+use Rattle.delta_buffer.proofs.CallSteps.{made_by, made_in_call, made_on}
 use Rattle.delta_buffer.proofs.Stepping.{before_after, search_after}
-use Rattle.point_calls.specs.PointCalls.{MakesIn, OpensEmpty}
+use Rattle.point_calls.specs.declared.found.Gap.{Gap}
+use Rattle.point_calls.specs.PointCalls.{OpensEmpty}
 use Rattle.point_calls.specs.Putting.{HasFoundGap, IsMissing, MayLinkIn}
-use Rattle.point_calls.proofs.Knowing.{built_at, valid_at, within_on}
+use Rattle.point_calls.proofs.Knowing.{built_at, section_on, valid_at, within_on}
 use Rattle.point_calls.proofs.Missing.{gap_absent, no_array}
 
 -- a step by which the hand does not leave, takes no lock, and adds no entry
@@ -54,16 +57,16 @@ pub record IsQuiet (d : Action) : Type 0 where
   pub keeps : KeepsLog d
 
 -- it still may link behind such a step
-pub may_on : (b : Board) (start h k : Hand) (g key p q : ℕ) (d : Action) → IsQuiet d →
-    Makes b h d k → MayLinkIn b start h g key p q → MayLinkIn b start k g key p q
-may_on b start h k g key p q d quiet m may =
+pub may_on : (b : Board) (start h k : Hand) (gap : Gap) (d : Action) → IsQuiet d →
+    Makes b h d k → MayLinkIn b start h gap → MayLinkIn b start k gap
+may_on b start h k gap d quiet m may =
     let o = opening_of b in
     let of = may.search.of in
     let w = may.within in
     let on = goes_on b h k d of m in
     record {
       began = may.began;
-      search = search_after b g h k d quiet.none quiet.free m may.search;
+      search = search_after b gap.group h k d quiet.none quiet.free m may.search;
       own = may.own;
       number = m.number ∙ may.number;
       within = is_within start k (known k)
@@ -75,84 +78,86 @@ may_on b start h k g key p q d quiet m may =
       moment = may.moment;
       moment_within = within_on start h k may.moment may.moment_within on;
       absent = may.absent;
-      leads = may.leads;
+      loaded = made_on start h k (load_of_link gap.group gap.before gap.next) may.loaded on;
       between = (
-        before_after b g key p h k d quiet.none m may.search may.between.0,
-        ⊎_elim (λ (z : q ≡ 0). inl z)
-            (λ (z : (j : ℕ) × (role o q (known h) ≡ InBuffer g j) × (key < j)).
+        before_after b gap.group gap.key gap.before h k d quiet.none m may.search may.between.0,
+        ⊎_elim (λ (z : gap.next ≡ 0). inl z)
+            (λ (z : (j : ℕ) × (role o gap.next (known h) ≡ InBuffer gap.group j) × (gap.key < j)).
             inr (
               z.0,
-              still_row b h k d of m may.search.reading.caller quiet.none g z.0 q may.search.stands
-                  z.1,
+              still_row b h k d of m may.search.reading.caller quiet.none gap.group z.0 gap.next
+                  may.search.stands z.1,
               z.2,
             ))
             may.between.1,
       );
-      seen = now b h k d of m (λ z t. saw_open z g t ≡ true)
-          (saw_open_on h.number g (since b h k d of m) (known h)
+      seen = now b h k d of m (λ z t. saw_open z gap.group t ≡ true)
+          (saw_open_on h.number gap.group (since b h k d of m) (known h)
           (goes_on_inside b h k d of m quiet.none) may.seen);
+      section = section_on b start h k d quiet.none of m may.section;
     }
 
 -- its step is one of the call
-pub made_there : (b : Board) (start h k : Hand) (g key p q : ℕ) (d : Action) →
-    MayLinkIn b start h g key p q → Makes b h d k → MakesIn start d k
-made_there b start h k g key p q d may m =
-    let of = may.search.of in (
-      m.acts.0 ++ known h,
-      continues_trans (known start) (known h) (m.acts.0 ++ known h) may.since (up_to b h k d of m),
-      subst (λ (z : ℕ). Continues (event z d ∷ m.acts.0 ++ known h) (known k)) may.number
-          ([], sym (known_is b h k d of m)),
-    )
+pub made_there : (b : Board) (start h k : Hand) (gap : Gap) (d : Action) →
+    MayLinkIn b start h gap → Makes b h d k → MakesIn start d k
+made_there b start h k gap d may m =
+    made_in_call b start h k d may.since may.number may.search.of m
 
 -- the key was missing
-pub is_missing : (b : Board) (start h : Hand) (g key p q : ℕ) → OpensEmpty b →
-    MayLinkIn b start h g key p q → IsMissing b key start h
-is_missing b start h g key p q empty may =
+pub is_missing : (b : Board) (start h : Hand) (gap : Gap) → OpensEmpty b →
+    MayLinkIn b start h gap → IsMissing b gap.key start h
+is_missing b start h gap empty may =
     let on = may.moment_within.5 in (
       may.moment,
       may.moment_within,
       gap_absent (opening_of b) may.moment empty (valid_at b may.moment (known h) on may.valid)
-          (built_at may.moment (known h) on may.built) key g may.own may.absent,
+          (built_at may.moment (known h) on may.built) gap.key gap.group may.own may.absent,
     )
 
 -- ---- the gap that was found ----
 
 -- behind the load of the phase
-pub may_link : (b : Board) (start h n : Hand) (g key p q word : ℕ) →
-    (found : HasFoundGap b start h g key p q) → (m : Makes b h (LoadPhase g word) n) →
-    MayLinkIn b start n g key p q
-may_link b start h n g key p q word found m =
+pub may_link : (b : Board) (start h n : Hand) (gap : Gap) (word : ℕ) →
+    (found : HasFoundGap b start h gap) → (m : Makes b h (LoadPhase gap.group word) n) →
+    MayLinkIn b start n gap
+may_link b start h n gap word found m =
     let at = found.group_of in
-    let seen = group_seen b start h n g key word at m in
-    let gap = found.gap in
+    let seen = group_seen b start h n gap.group gap.key word at m in
+    let finds = found.finds in
     record {
       began = at.began;
       search = seen.search;
       own = at.own;
       number = seen.number;
       within = seen.within;
-      since = (is_in b start n g key seen).since;
+      since = (is_in b start n gap.group gap.key seen).since;
       valid = seen.valid;
       built = seen.built;
       no_entry = seen.no_entry;
-      moment = gap.moment;
-      moment_within = within_on start h n gap.moment gap.within
-          (goes_on b h n (LoadPhase g word) at.search.of m);
-      absent = gap.absent;
-      leads = gap.leads;
+      moment = finds.moment;
+      moment_within = within_on start h n finds.moment finds.within
+          (goes_on b h n (LoadPhase gap.group word) at.search.of m);
+      absent = finds.absent;
+      loaded = made_on start h n (load_of_link gap.group gap.before gap.next)
+          (made_by start h (load_of_link gap.group gap.before gap.next) finds.moment finds.loaded
+          finds.within.5)
+          (goes_on b h n (LoadPhase gap.group word) at.search.of m);
       between = (
-        before_after b g key p h n (LoadPhase g word) tt m at.search gap.belongs.0,
-        ⊎_elim (λ (z : q ≡ 0). inl z)
-            (λ (z : (j : ℕ) × (role (opening_of b) q (known h) ≡ InBuffer g j) × (key < j)).
+        before_after b gap.group gap.key gap.before h n (LoadPhase gap.group word) tt m at.search
+            finds.belongs.0,
+        ⊎_elim (λ (z : gap.next ≡ 0). inl z)
+            (λ (z : (j : ℕ) × (role (opening_of b) gap.next (known h) ≡ InBuffer gap.group j)
+            × (gap.key < j)).
             inr (
               z.0,
-              still_row b h n (LoadPhase g word) at.search.of m at.search.reading.caller tt g z.0 q
-                  at.search.stands z.1,
+              still_row b h n (LoadPhase gap.group word) at.search.of m at.search.reading.caller tt
+                  gap.group z.0 gap.next at.search.stands z.1,
               z.2,
             ))
-            gap.belongs.1,
+            finds.belongs.1,
       );
-      seen = seen_open b start h n g key word at m;
+      seen = seen_open b start h n gap.group gap.key word at m;
+      section = seen.section;
     }
 
 -- ---- what others do until the row is linked ----
@@ -169,54 +174,55 @@ only_inside c (e ∷ newer) only =
     stores_inside d is = tt
 
 -- the key belongs there as long as it has no row
-pub belongs_until : (b : Board) (start h : Hand) (g key p q : ℕ) → OpensEmpty b →
-    MayLinkIn b start h g key p q → BelongsUntilLinked (opening_of b) h.number g key (known h)
-belongs_until b start h g key p q empty may newer valid only gap =
+pub belongs_until : (b : Board) (start h : Hand) (gap : Gap) → OpensEmpty b →
+    MayLinkIn b start h gap → BelongsUntilLinked (opening_of b) h.number gap.group gap.key (known h)
+belongs_until b start h gap empty may newer valid only none =
     let o = opening_of b in
     let stay = only_inside h.number newer only in
-    link_open o h.number g key may.search.reading.caller newer [] (known h) valid tt stay
-    may.search.stands (((groups_as_opened o (known h) may.built).0 key).0 ∙ may.own)
-    (λ a is. no_array o (known h) empty may.valid may.built g key a is)
-    (saw_open_on h.number g newer (known h) stay may.seen) gap
+    link_open o h.number gap.group gap.key may.search.reading.caller newer [] (known h) valid tt stay
+    may.search.stands (((groups_as_opened o (known h) may.built).0 gap.key).0 ∙ may.own)
+    (λ a is. no_array o (known h) empty may.valid may.built gap.group gap.key a is)
+    (saw_open_on h.number gap.group newer (known h) stay may.seen) none
 
 -- so the filled row may be linked
-pub can_insert : (b : Board) (start h : Hand) (g key p q place : ℕ) → OpensEmpty b →
-    MayLinkIn b start h g key p q → Holds (opening_of b) h.number place (known h) →
-    word (opening_of b) (known h) (PlaceWord place part.Key) ≡ key →
+pub can_insert : (b : Board) (start h : Hand) (gap : Gap) (place : ℕ) → OpensEmpty b →
+    MayLinkIn b start h gap → Holds (opening_of b) h.number place (known h) →
+    word (opening_of b) (known h) (PlaceWord place part.Key) ≡ gap.key →
     word (opening_of b) (known h) (PlaceWord place part.State)
     ≡ state_word (Unlocked (first_version (opening_of b)) false
     (word (opening_of b) (known h) (PlaceWord place part.Value))) →
-    CanInsert (opening_of b) h.number g place p q (known h)
-can_insert b start h g key p q place empty may held is new =
+    CanInsert (opening_of b) h.number gap.group place gap.before gap.next (known h)
+can_insert b start h gap place empty may held is new =
     let o = opening_of b in
     record {
       filled = record { held = held; new_word = new; link_word = refl };
-      between = subst (λ (z : ℕ). BelongsBetween o g z p q (known h)) (sym is) may.between;
+      between = subst (λ (z : ℕ). BelongsBetween o gap.group z gap.before gap.next (known h)) (sym is)
+          may.between;
       permission = inl may.seen;
-      belongs = subst (λ (z : ℕ). BelongsUntilLinked o h.number g z (known h)) (sym is)
-          (belongs_until b start h g key p q empty may);
+      belongs = subst (λ (z : ℕ). BelongsUntilLinked o h.number gap.group z (known h)) (sym is)
+          (belongs_until b start h gap empty may);
     }
 
 -- behind the filling of its row
-pub may_filled : (b : Board) (start h k : Hand) (g key p q place value : ℕ) →
-    Fills b h place key value k → MayLinkIn b start h g key p q → MayLinkIn b start k g key p q
-may_filled b start h k g key p q place value fills may =
+pub may_filled : (b : Board) (start h k : Hand) (gap : Gap) (place value : ℕ) →
+    Fills b h place gap.key value k → MayLinkIn b start h gap → MayLinkIn b start k gap
+may_filled b start h k gap place value fills may =
     let all = fills.steps in
     let one = all.1.0 in
-    let first : Makes b h (StorePrivate place part.Key key) one =
-    subst (λ (z : Hand). Makes b z (StorePrivate place part.Key key) one) all.1.1.1 all.1.1.2 in
-    may_on b start all.0 k g key p q (StorePrivate place part.State (first_state (opening_of b)))
+    let first : Makes b h (StorePrivate place part.Key gap.key) one =
+    subst (λ (z : Hand). Makes b z (StorePrivate place part.Key gap.key) one) all.1.1.1 all.1.1.2 in
+    may_on b start all.0 k gap (StorePrivate place part.State (first_state (opening_of b)))
     (record { none = tt; free = λ z. z; keeps = λ o t log. refl }) all.2
-    (may_on b start one all.0 g key p q (StorePrivate place part.Value value)
+    (may_on b start one all.0 gap (StorePrivate place part.Value value)
     (record { none = tt; free = λ z. z; keeps = λ o t log. refl }) all.1.2
-    (may_on b start h one g key p q (StorePrivate place part.Key key)
+    (may_on b start h one gap (StorePrivate place part.Key gap.key)
     (record { none = tt; free = λ z. z; keeps = λ o t log. refl }) first may))
 
 -- the change that the link added is one of the call
-pub adds_there : (b : Board) (start h k : Hand) (g key p q : ℕ) (change same : Change)
-    (old : Option ℕ) → MayLinkIn b start h g key p q → change ≡ same →
+pub adds_there : (b : Board) (start h k : Hand) (gap : Gap) (change same : Change)
+    (old : Option ℕ) → MayLinkIn b start h gap → change ≡ same →
     AddsChange b h change old k → AddsChange b start same old k
-adds_there b start h k g key p q change same old may is adds =
+adds_there b start h k gap change same old may is adds =
     let moment : Execution = adds.0 in
     let w = may.within in
     let here : Continues (known h) moment =

@@ -17,7 +17,6 @@ use Rattle.index_rule.specs.declared.tried.Tried.TheVariants as tried
 use Rattle.index_rule.specs.Hands.{Makes, known, opening_of}
 use Rattle.index_rule.specs.Moments.{AddsChange, AddsNoEntry}
 use Rattle.index_rule.specs.Records.{key_at, or_zero}
-use Rattle.index_rule.proofs.Calls.{goes_on}
 use Rattle.index_rule.proofs.RecordSteps.{place_below}
 use Rattle.index_rule.proofs.Standing.{keyed_place}
 use Rattle.delta_buffer.specs.Searching.{CanSearch, IsReachedRow}
@@ -27,7 +26,8 @@ use Rattle.record_cell.specs.Writes.{FindsLastVersion, Writes, changing, put_at,
 use Rattle.point_calls.specs.Changing.{LosesLock, MeetsLast}
 use Rattle.point_calls.specs.PointCalls.{IsOfKey}
 use Rattle.point_calls.specs.Removing.{RemoveTells}
-use Rattle.point_calls.proofs.Knowing.{AreKept, IsIn, adds_whole, in_all, in_step, made_in, made_on}
+use Rattle.point_calls.proofs.Knowing.{AreKept, IsIn, adds_whole, in_all, in_step, made_behind}
+use Rattle.point_calls.proofs.Knowing.{made_in}
 use Rattle.point_calls.proofs.Knowing.{within_whole}
 use Rattle.point_calls.proofs.RowReading.{in_found, loaded_at, of_row}
 
@@ -56,7 +56,7 @@ module _ (b : Board) (start h : Hand) (g key place : ℕ) (i : IsIn b start h) (
     in_m = in_found b start h g key place i can row m at expected finds
 
     pub in_failed : IsIn b start k
-    in_failed = in_step b start m k (FailLock at expected found) tt fails in_m
+    in_failed = in_step b start m k (FailLock at expected found) tt tt fails in_m
 
     pub loses_lock : expected ≢ found → HasSameKey b h place at k →
         LosesLock b key start (part_address at State) expected found k
@@ -64,11 +64,11 @@ module _ (b : Board) (start h : Hand) (g key place : ℕ) (i : IsIn b start h) (
         record {
           place = at;
           is_address = refl;
-          loaded = made_on start m k (LoadState at expected)
+          steps = made_behind b start m k (LoadState at expected) (FailLock at expected found)
+              in_m.number in_m.of
               (made_in b start h m (LoadState at expected) i
               (loaded_at b start h g key place i can row m at expected finds))
-              (goes_on b m k (FailLock at expected found) in_m.of fails);
-          failed = made_in b start m k (FailLock at expected found) in_m fails;
+              fails;
           of_key = of_row b h k g key place at row.0 same;
           differ = differ;
         }
@@ -93,8 +93,8 @@ module _ (b : Board) (start h : Hand) (g key place : ℕ) (i : IsIn b start h) (
   -- ---- what was changed ----
 
   kept : (at word old stored : ℕ) (change : Change) → AreKept (changing at word old change stored)
-  kept at word old stored (Put c j v) = (tt, (tt, (tt, (tt, tt))))
-  kept at word old stored (Remove c j) = (tt, (tt, (tt, tt)))
+  kept at word old stored (Put c j v) = (tt, tt, (tt, tt, (tt, tt, (tt, tt, tt))))
+  kept at word old stored (Remove c j) = (tt, tt, (tt, tt, (tt, tt, tt)))
 
   pub in_done : (k : Hand) (change : Change) (old : Option ℕ) →
       Writes b h place change (wrote.Done old) k → IsIn b start k

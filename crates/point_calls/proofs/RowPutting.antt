@@ -1,6 +1,7 @@
 -- How a caller overwrites or revives the row that it found.
 use Rattle.std.proofs.Common.{◌≡◌, ◌≢◌, ℕ, ◌++◌, inl, Bool, true, false, cond, Option, Some, None, [], ◌∷◌}
 use Rattle.std.proofs.Common.{eq-eqb, refl, sym, ap, ◌∙◌, subst, arith}
+use Rattle.index_machine.specs.Execution.{event}
 use Rattle.std.specs.Prelude.{◌==◌, ◌&&◌}
 use Rattle.word_layout.specs.declared.phase.Phase.TheVariants.{Open}
 use Rattle.word_layout.specs.declared.phase.Phase.{Phase}
@@ -27,6 +28,8 @@ use Rattle.index_rule.proofs.Calls.{goes_on, is_within}
 use Rattle.index_rule.proofs.RecordReading.{no_entry}
 use Rattle.index_rule.proofs.RecordStepping.{now, same_role, still_reached}
 use Rattle.delta_buffer.specs.Searching.{CanSearch, FindsGap, IsReachedRow}
+use Rattle.delta_buffer.specs.Walks.{load_of_link}
+use Rattle.delta_buffer.proofs.CallSteps.{made_on}
 use Rattle.delta_buffer.proofs.Stepping.{search_after}
 use Rattle.record_cell.specs.declared.answers.Wrote.TheVariants as wrote
 use Rattle.record_cell.specs.Conditions.{IsLiveState, IsTombstoneState}
@@ -34,9 +37,11 @@ use Rattle.record_cell.specs.Finding.{Finds}
 use Rattle.record_cell.specs.Reviving.{BringsToLife, MayRevive}
 use Rattle.record_cell.specs.Writes.{put_at}
 use Rattle.record_cell.proofs.Found.{found_in_place}
+use Rattle.point_calls.specs.declared.found.FoundRow.{FoundRow}
+use Rattle.point_calls.specs.declared.found.Gap.{Gap}
 use Rattle.point_calls.specs.PointCalls.{MeetsChange, OpensEmpty}
 use Rattle.point_calls.specs.Putting.{HasFoundGap, HasFoundRow, HasFoundTombstone, IsInGroupOf}
-use Rattle.point_calls.proofs.Knowing.{IsIn, in_all, in_step, made_in, made_on, within_whole}
+use Rattle.point_calls.proofs.Knowing.{IsIn, in_all, in_step, made_behind, made_in, within_whole}
 use Rattle.point_calls.proofs.Missing.{no_array}
 use Rattle.point_calls.proofs.RowReading.{ready_row}
 
@@ -52,13 +57,14 @@ is_in b start h g key at =
       built = at.built;
       since = continues_trans (known start) (w.1 ++ known start) (known h) (w.1, refl) w.4;
       rows = at.rows;
+      section = at.section;
     }
 
 module _ (b : Board) (start h k : Hand) (g key : ℕ) (d : Action) (none : IsNoCrossing d)
     (free : TakesLock d → ⊥) (keeps : KeepsRoles d) (m : Makes b h d k)
     (at : IsInGroupOf b start h g key) where
   in_k : IsIn b start k
-  in_k = in_step b start h k d keeps m (is_in b start h g key at)
+  in_k = in_step b start h k d none keeps m (is_in b start h g key at)
 
   -- it still is there after such a step
   pub group_on : AddsNoEntry start k → IsInGroupOf b start k g key
@@ -73,6 +79,7 @@ module _ (b : Board) (start h k : Hand) (g key : ℕ) (d : Action) (none : IsNoC
         built = in_k.built;
         no_entry = entry;
         rows = in_k.rows;
+        section = in_k.section;
       }
 
   -- and at the row
@@ -86,10 +93,13 @@ module _ (b : Board) (start h k : Hand) (g key : ℕ) (d : Action) (none : IsNoC
   )
 
 -- the row was found to be a tombstone
-pub found_stone : (b : Board) (start h k : Hand) (g key place at word : ℕ) →
-    HasFoundRow b start h g key place → Finds b h place at word k → IsTombstoneState word →
-    AddsNoEntry start k → HasFoundTombstone b start k g key place word
-found_stone b start h k g key place at word found finds stone entry =
+pub found_stone : (b : Board) (start h k : Hand) (r : FoundRow) (at word : ℕ) →
+    HasFoundRow b start h r → Finds b h r.place at word k → IsTombstoneState word →
+    AddsNoEntry start k → HasFoundTombstone b start k r word
+found_stone b start h k r at word found finds stone entry =
+    let g : ℕ = r.group in
+    let key : ℕ = r.key in
+    let place : ℕ = r.place in
     let here = found_in_place b h k place at word (ready_row b g key place h found.group_of.search found.row)
     finds in
     record {
@@ -181,21 +191,22 @@ module _ (b : Board) (start n : Hand) (g key place : ℕ) (at : IsInGroupOf b st
   in_revived k value (Some old) s = absurd s
   in_revived k value None s =
       in_all b start n (Unlock place false (put_at b n place value) s.1 ∷ StoreValue place value
-      ∷ Lock place s.0 ∷ LoadState place s.0 ∷ []) k (tt, (tt, (tt, (tt, tt)))) s.3
+      ∷ Lock place s.0 ∷ LoadState place s.0 ∷ []) k (tt, tt, (tt, tt, (tt, tt, (tt, tt, tt)))) s.3
       (is_in b start n g key at)
 
   -- it was alive
   pub was_alive : (h k : Hand) (first second : ℕ) → Makes b n (LoadState place second) k →
-      HasFoundTombstone b start h g key place first → (phase : ℕ) → Makes b h (LoadPhase g phase) n →
+      HasFoundTombstone b start h (record { group = g; place = place; key = key }) first →
+      (phase : ℕ) → Makes b h (LoadPhase g phase) n →
       IsReachedRow (opening_of b) n.number g key place (known n) → IsLiveState second →
       MeetsChange b key start place first second k
   was_alive h k first second s stone phase m row live =
       record {
-        loaded = made_on start h k (LoadState place first) stone.loaded
-            (continues_trans (known h) (known n) (known k)
-            (goes_on b h n (LoadPhase g phase) stone.found.group_of.search.of m)
-            (goes_on b n k (LoadState place second) at.search.of s));
-        loaded_again = made_in b start n k (LoadState place second) (is_in b start n g key at) s;
+        loads = made_behind b start n k (LoadState place first) (LoadState place second) at.number
+            at.search.of
+            (made_on start h n (LoadState place first) stone.loaded
+            (goes_on b h n (LoadPhase g phase) stone.found.group_of.search.of m))
+            s;
         of_key = ap role_key
             (row_on b start n k g key (LoadState place second) tt (λ z. z) tt s at place row).0;
         differ = stone_not_live first second stone.stone live;
@@ -218,17 +229,26 @@ found_group b start l n g key of own i can none =
       built = i.built;
       no_entry = none;
       rows = i.rows;
+      section = i.section;
     }
 
 -- and found a gap there
-pub found_gap : (b : Board) (start l n : Hand) (g key before next : ℕ) → IsIn b start l →
-    IsInGroupOf b start n g key → FindsGap b g key before next l n →
-    HasFoundGap b start n g key before next
-found_gap b start l n g key before next i at gap =
+pub found_gap : (b : Board) (start l n : Hand) (found : Gap) → IsIn b start l →
+    IsInGroupOf b start n found.group found.key →
+    FindsGap b found.group found.key found.before found.next l n → HasFoundGap b start n found
+found_gap b start l n found i at gap =
     record {
       group_of = at;
-      gap = record {
+      finds = record {
         moment = gap.moment;
+        loaded = (
+          gap.loaded.0,
+          continues_trans (known start) (known l) gap.loaded.0 i.since gap.loaded.1,
+          subst
+              (λ (z : ℕ).
+              event z (load_of_link found.group found.before found.next) ∷ gap.loaded.0 ≡ gap.moment)
+              i.number gap.loaded.2,
+        );
         within = within_whole b start l n gap.moment i gap.within;
         absent = gap.absent;
         leads = gap.leads;

@@ -5,7 +5,6 @@ use Rattle.index_machine.specs.Execution.{Continues}
 use Rattle.index_machine.specs.LivePlaces.{value_in_map}
 use Rattle.index_machine.specs.Places.{form}
 use Rattle.index_machine.specs.Rows.{InBuffer, role, role_key}
-use Rattle.index_machine.proofs.Executions.{continues_trans}
 use Rattle.machine_places.proofs.Forms.{some_is}
 use Rattle.index_rule.specs.declared.board.Board.{Board}
 use Rattle.index_rule.specs.declared.hand.Hand.{Hand}
@@ -15,6 +14,7 @@ use Rattle.index_rule.specs.Moments.{AddsNoEntry}
 use Rattle.index_rule.specs.Records.{key_at, or_zero}
 use Rattle.index_rule.proofs.Calls.{goes_on}
 use Rattle.delta_buffer.specs.Searching.{CanSearch, IsReachedRow}
+use Rattle.delta_buffer.proofs.CallSteps.{made_on}
 use Rattle.delta_buffer.proofs.Stepping.{search_after}
 use Rattle.record_cell.specs.Conditions.{IsLockedState}
 use Rattle.index_machine.specs.Sections.{IsCaller}
@@ -23,7 +23,7 @@ use Rattle.record_cell.specs.Reads.{FindsLock, FindsNone, FindsValue, IsHeldByAn
 use Rattle.record_cell.proofs.Found.{found_in_place}
 use Rattle.point_calls.specs.Lookup.{HasMissed}
 use Rattle.point_calls.specs.PointCalls.{IsOfKey, MeetsChange, MeetsLock, OpensEmpty}
-use Rattle.point_calls.proofs.Knowing.{IsIn, built_at, in_step, made_in, made_on, valid_at}
+use Rattle.point_calls.proofs.Knowing.{IsIn, built_at, in_step, made_behind, made_in, valid_at}
 use Rattle.point_calls.proofs.Knowing.{within_whole}
 use Rattle.point_calls.proofs.Missing.{missed, stone_absent}
 use Rattle.index_machine.specs.Openings.{opening_group}
@@ -65,7 +65,7 @@ module _ (b : Board) (start h : Hand) (g key place : ℕ) (i : IsIn b start h) (
         subst (λ (z : ℕ). Makes b h (LoadState z word) k) (sym here.0) here.1
 
     pub in_found : IsIn b start k
-    in_found = in_step b start h k (LoadState at word) tt loaded_at i
+    in_found = in_step b start h k (LoadState at word) tt tt loaded_at i
 
     pub search_found : CanSearch b g k
     search_found = search_after b g h k (LoadState at word) tt (λ z. z) loaded_at can
@@ -99,20 +99,19 @@ module _ (b : Board) (start h : Hand) (g key place : ℕ) (i : IsIn b start h) (
         (again : Makes b m (LoadState at second) n) where
       pub in_again : IsIn b start n
       in_again =
-          in_step b start m n (LoadState at second) tt again
-          (in_step b start k m (LoadValue at value) tt loads in_found)
+          in_step b start m n (LoadState at second) tt tt again
+          (in_step b start k m (LoadValue at value) tt tt loads in_found)
 
       pub meets_change : word ≢ second → HasSameKey b h place at n →
           MeetsChange b key start at word second n
       meets_change differ same =
           record {
-            loaded = made_on start k n (LoadState at word)
+            loads = made_behind b start m n (LoadState at word) (LoadState at second)
+                (loads.number ∙ in_found.number) loads.of
+                (made_on start k m (LoadState at word)
                 (made_in b start h k (LoadState at word) i loaded_at)
-                (continues_trans (known k) (known m) (known n)
-                (goes_on b k m (LoadValue at value) in_found.of loads)
-                (goes_on b m n (LoadState at second) loads.of again));
-            loaded_again = made_in b start m n (LoadState at second)
-                (in_step b start k m (LoadValue at value) tt loads in_found) again;
+                (goes_on b k m (LoadValue at value) in_found.of loads))
+                again;
             of_key = of_row b h n g key place at row.0 same;
             differ = differ;
           }

@@ -13,16 +13,16 @@ use Rattle.index_rule.specs.declared.hand.Hand.{Hand}
 use Rattle.index_rule.specs.Hands.{opening_of}
 use Rattle.index_rule.specs.Moments.{IsWithin}
 use Rattle.record_cell.specs.Writes.{worn_word}
-use Rattle.point_calls.specs.PointCalls.{IsOfKey, MakesIn}
+use Rattle.delta_buffer.specs.Walks.{MakesIn}
+use Rattle.point_calls.specs.PointCalls.{IsOfKey, MakesThen}
 
 -- the exchange of the state word of a place of the key, at this address, found another word than the call
--- had loaded there
+-- had loaded there before
 pub record LosesLock (b : Board) (key : ℕ) (h : Hand) (address expected found : ℕ) (k : Hand)
     : Type 0 where
   pub place : ℕ
   pub is_address : address ≡ part_address place State
-  pub loaded : MakesIn h (LoadState place expected) k
-  pub failed : MakesIn h (FailLock place expected found) k
+  pub steps : MakesThen h (LoadState place expected) (FailLock place expected found) k
   pub of_key : IsOfKey b key place k
   pub differ : expected ≢ found
 

@@ -11,7 +11,7 @@ use Rattle.index_rule.specs.Buffers.{CanSeePhase}
 use Rattle.index_rule.specs.Hands.{IsHandOf, MakesAll, known, opening_of}
 use Rattle.index_rule.specs.Moments.{AddsNoEntry, IsWithin}
 use Rattle.delta_buffer.specs.Searching.{CanSearch}
-use Rattle.point_calls.specs.PointCalls.{CanCall, KeepsRows}
+use Rattle.point_calls.specs.PointCalls.{CanCall, IsOneSection, KeepsRows}
 
 -- the caller loaded the root and the group of its one slot, and stands in this group, which answers for
 -- every key
@@ -33,6 +33,7 @@ pub record HasMissed (b : Board) (start h : Hand) (group key : ℕ) : Type 0 whe
   pub exists : CanSearch b group h
   pub no_entry : AddsNoEntry start h
   pub rows : KeepsRows b start h
+  pub section : IsOneSection start h
   pub moment : Execution
   pub within : IsWithin start h moment
   pub absent : value_in_map (opening_of b) key moment ≡ None

@@ -9,13 +9,14 @@ use Rattle.index_machine.specs.LivePlaces.{history, value_in_map}
 use Rattle.index_machine.specs.Places.{form}
 use Rattle.index_machine.specs.RecordConditions.{HoldsNoLock}
 use Rattle.index_machine.specs.Rows.{Holds, HoldsNone, role, role_key}
-use Rattle.index_machine.specs.Sections.{IsReading}
+use Rattle.index_machine.specs.Sections.{IsReading, crossings}
 use Rattle.index_rule.specs.declared.board.Board.{Board}
 use Rattle.index_rule.specs.declared.hand.Hand.{Hand}
 use Rattle.index_rule.specs.declared.rows.PrivateRow.{PrivateRow}
 use Rattle.index_rule.specs.Hands.{IsHandOf, known, opening_of, view}
 use Rattle.index_rule.specs.Moments.{IsWithin}
 use Rattle.index_rule.specs.OwnRows.{place_of_private}
+use Rattle.delta_buffer.specs.Walks.{MakesIn}
 use Rattle.record_cell.specs.Conditions.{IsLockedState}
 use Rattle.record_cell.specs.Reads.{IsHeldByAnother}
 
@@ -42,11 +43,16 @@ KeepsRows b h k = (spare : Option PrivateRow) → HasSpare b h spare → HasSpar
 
 -- ---- its steps ----
 
--- the hand made this step in the call
-abbrev pub MakesIn : Hand → Action → Hand → Type 0
-MakesIn h action k =
-    (earlier : Execution) × Continues (known h) earlier
-    × Continues (event h.number action ∷ earlier) (known k)
+-- the call stays within its read section: the hand neither entered nor left in it
+abbrev pub IsOneSection : Hand → Hand → Type 0
+IsOneSection h k = crossings k.number (known k) ≡ crossings h.number (known h)
+
+-- the hand made the first of these steps in the call, and later on the other one
+abbrev pub MakesThen : Hand → Action → Action → Hand → Type 0
+MakesThen h first other k =
+    (earlier : Execution) × (between : Execution) × Continues (known h) earlier
+    × Continues (event h.number first ∷ earlier) between
+    × Continues (event h.number other ∷ between) (known k)
 
 -- ---- its entry ----
 
@@ -72,10 +78,9 @@ pub record MeetsLock (b : Board) (key : ℕ) (h : Hand) (place word : ℕ) (k : 
   pub within : IsWithin h k moment
   pub by_another : IsHeldByAnother h.number (form (opening_of b) place moment)
 
--- two loads of the state word, at a place of the key, found these two words, which differ
+-- a load of the state word, at a place of the key, and a later one found these two words, which differ
 pub record MeetsChange (b : Board) (key : ℕ) (h : Hand) (place first second : ℕ) (k : Hand)
     : Type 0 where
-  pub loaded : MakesIn h (LoadState place first) k
-  pub loaded_again : MakesIn h (LoadState place second) k
+  pub loads : MakesThen h (LoadState place first) (LoadState place second) k
   pub of_key : IsOfKey b key place k
   pub differ : first ≢ second

@@ -1,5 +1,5 @@
 -- What a put of a key needs within its group, and what its answer tells.
-use Rattle.std.specs.Prelude.{◌≡◌, ◌≢◌, ◌⊎◌, ℕ, true, Option, None}
+use Rattle.std.specs.Prelude.{◌≡◌, ◌≢◌, ◌⊎◌, ℕ, true, IsSome, Option, None}
 use Rattle.map_model.specs.declared.entries.Change.TheVariants.{Put}
 use Rattle.map_model.specs.Map.{look}
 use Rattle.word_layout.specs.declared.phase.Phase.TheVariants.{Frozen}
@@ -12,7 +12,8 @@ use Rattle.index_machine.specs.Execution.{Continues, Execution}
 use Rattle.index_machine.specs.LivePlaces.{value_in_map}
 use Rattle.index_machine.specs.Openings.{opening_group}
 use Rattle.index_machine.specs.Reaching.{saw_open}
-use Rattle.index_machine.specs.Words.{limits, link_behind, word}
+use Rattle.index_machine.specs.Rows.{Holds}
+use Rattle.index_machine.specs.Words.{limits, link_behind}
 use Rattle.machine_readers.specs.Buffers.{rows}
 use Rattle.index_rule.specs.declared.board.Board.{Board}
 use Rattle.index_rule.specs.declared.hand.Hand.{Hand}
@@ -24,10 +25,15 @@ use Rattle.index_rule.specs.declared.tried.Why.TheVariants as why
 use Rattle.index_rule.specs.Built.{AreBuilt}
 use Rattle.index_rule.specs.Hands.{IsHandOf, known, opening_of}
 use Rattle.index_rule.specs.Moments.{AddsChange, AddsNoEntry, IsWithin}
+use Rattle.row_arena.specs.Fullness.{RowsAreUsedUp}
 use Rattle.delta_buffer.specs.Searching.{BelongsBetween, CanSearch, FindsGap, IsReachedRow}
+use Rattle.delta_buffer.specs.Walks.{MakesIn, load_of_link}
 use Rattle.record_cell.specs.Conditions.{IsTombstoneState}
+use Rattle.point_calls.specs.declared.found.FoundRow.{FoundRow}
+use Rattle.point_calls.specs.declared.found.Gap.{Gap}
 use Rattle.point_calls.specs.Changing.{LosesLock, MeetsLast}
-use Rattle.point_calls.specs.PointCalls.{HasSpare, KeepsRows, MakesIn, MeetsChange, MeetsLock}
+use Rattle.point_calls.specs.PointCalls.{HasSpare, IsOneSection, KeepsRows, MakesThen, MeetsChange}
+use Rattle.point_calls.specs.PointCalls.{MeetsLock}
 
 -- ---- within its group ----
 
@@ -42,22 +48,23 @@ pub record IsInGroupOf (b : Board) (start h : Hand) (group key : ℕ) : Type 0 w
   pub built : AreBuilt (known h)
   pub no_entry : AddsNoEntry start h
   pub rows : KeepsRows b start h
+  pub section : IsOneSection start h
 
 -- it found the row of the key there
-pub record HasFoundRow (b : Board) (start h : Hand) (group key place : ℕ) : Type 0 where
-  pub group_of : IsInGroupOf b start h group key
-  pub row : IsReachedRow (opening_of b) h.number group key place (known h)
+pub record HasFoundRow (b : Board) (start h : Hand) (found : FoundRow) : Type 0 where
+  pub group_of : IsInGroupOf b start h found.group found.key
+  pub row : IsReachedRow (opening_of b) h.number found.group found.key found.place (known h)
 
 -- this row was a tombstone, by the state word that it loaded
-pub record HasFoundTombstone (b : Board) (start h : Hand) (group key place first : ℕ) : Type 0 where
-  pub found : HasFoundRow b start h group key place
-  pub loaded : MakesIn start (LoadState place first) h
+pub record HasFoundTombstone (b : Board) (start h : Hand) (row : FoundRow) (first : ℕ) : Type 0 where
+  pub found : HasFoundRow b start h row
+  pub loaded : MakesIn start (LoadState row.place first) h
   pub stone : IsTombstoneState first
 
--- it found no row of the key there, which belongs between these two places
-pub record HasFoundGap (b : Board) (start h : Hand) (group key before next : ℕ) : Type 0 where
-  pub group_of : IsInGroupOf b start h group key
-  pub gap : FindsGap b group key before next start h
+-- it found no row of the key there, which belongs into this gap
+pub record HasFoundGap (b : Board) (start h : Hand) (gap : Gap) : Type 0 where
+  pub group_of : IsInGroupOf b start h gap.group gap.key
+  pub finds : FindsGap b gap.group gap.key gap.before gap.next start h
 
 -- ---- why it is to be tried again ----
 
@@ -72,22 +79,21 @@ pub record MeetsFrozen (b : Board) (key : ℕ) (h : Hand) (group word : ℕ) (k 
   pub frozen : word ≡ word_of_phase Frozen
   pub missing : IsMissing b key h k
 
--- the exchange of a link, at this address, found another word than the link had at a moment of the call
+-- the exchange of a link, at this address, found another word than the call had loaded there before, and
+-- the hand holds the row that was to be linked
 pub record LosesLink (b : Board) (h : Hand) (address expected found : ℕ) (k : Hand) : Type 0 where
   pub group : ℕ
   pub before : ℕ
   pub is_address : address ≡ address_of (limits (opening_of b)) (link_behind group before)
-  pub moment : Execution
-  pub within : IsWithin h k moment
-  pub was : word (opening_of b) moment (link_behind group before) ≡ expected
-  pub failed : MakesIn h (FailLink group before expected found) k
+  pub steps : MakesThen h (load_of_link group before expected)
+      (FailLink group before expected found) k
   pub differ : expected ≢ found
+  pub held : (place : ℕ) × Holds (opening_of b) k.number place (known k)
 
--- the exchange of the head of the free stack found another word than the call had loaded there
+-- the exchange of the head of the free stack found another word than the call had loaded there before
 pub record LosesHead (h : Hand) (address expected found : ℕ) (k : Hand) : Type 0 where
   pub is_address : address ≡ 0
-  pub loaded : MakesIn h (LoadFree expected) k
-  pub failed : MakesIn h (FailPop expected found) k
+  pub steps : MakesThen h (LoadFree expected) (FailPop expected found) k
   pub differ : expected ≢ found
 
 -- why a put is to be tried again
@@ -101,9 +107,11 @@ IsPutCause b key h (why.Raced address expected found) k =
 
 -- ---- what the answer tells ----
 
--- no row was free: the call loaded 0 as the head of the free stack, and the key was not in the map
+-- no row was free: the call loaded 0 as the head of the free stack, the key was not in the map, and the
+-- record rows are used up
 abbrev pub MeetsNoRow : Board → ℕ → Hand → Hand → Type 0
-MeetsNoRow b key h k = MakesIn h (LoadFree 0) k × IsMissing b key h k
+MeetsNoRow b key h k =
+    MakesIn h (LoadFree 0) k × IsMissing b key h k × RowsAreUsedUp (opening_of b) (known k)
 
 -- what the answer of a put tells of the key, and the entry that it added
 abbrev pub PutTells : Board → ℕ → ℕ → Hand → Tried (Option ℕ) → Hand → Type 0
@@ -116,14 +124,18 @@ PutTells b key value h (tried.Worn place word) k = AddsNoEntry h k × MeetsLast 
 abbrev pub IsFullOnly : Option PrivateRow → Tried (Option ℕ) → Type 0
 IsFullOnly spare answer = answer ≡ tried.Full → spare ≡ None
 
+-- where a row was spare, one is spare afterwards, unless a key without a value was given one
+abbrev pub KeepsSpare : Option PrivateRow → Tried (Option ℕ) → Option PrivateRow → Type 0
+KeepsSpare old answer new = answer ≢ tried.Done None → IsSome old → IsSome new
+
 -- ---- a new row ----
 
--- the caller saw the group of the key open, where the key belongs between these two places: at a moment of
--- its call the key had no row there, and the link behind the first led to the second
-pub record MayLinkIn (b : Board) (start h : Hand) (group key before next : ℕ) : Type 0 where
+-- the caller saw the group of the key open, where the key belongs into this gap: it loaded the link there,
+-- and the key had no row at a moment of its call
+pub record MayLinkIn (b : Board) (start h : Hand) (gap : Gap) : Type 0 where
   pub began : IsHandOf b start
-  pub search : CanSearch b group h
-  pub own : opening_group (opening_of b) key ≡ group
+  pub search : CanSearch b gap.group h
+  pub own : opening_group (opening_of b) gap.key ≡ gap.group
   pub number : h.number ≡ start.number
   pub within : IsWithin start h (known h)
   pub since : Continues (known start) (known h)
@@ -132,15 +144,16 @@ pub record MayLinkIn (b : Board) (start h : Hand) (group key before next : ℕ) 
   pub no_entry : AddsNoEntry start h
   pub moment : Execution
   pub moment_within : IsWithin start h moment
-  pub absent : look (rows group moment) key ≡ None
-  pub leads : word (opening_of b) moment (link_behind group before) ≡ next
-  pub between : BelongsBetween (opening_of b) group key before next (known h)
-  pub seen : saw_open h.number group (known h) ≡ true
+  pub absent : look (rows gap.group moment) gap.key ≡ None
+  pub loaded : MakesIn start (load_of_link gap.group gap.before gap.next) h
+  pub between : BelongsBetween (opening_of b) gap.group gap.key gap.before gap.next (known h)
+  pub seen : saw_open h.number gap.group (known h) ≡ true
+  pub section : IsOneSection start h
 
--- no row could be taken: none was free, and then there was no spare one; or the exchange of the head was lost
+-- no row could be taken, and there was no spare one: none was free, or the exchange of the head was lost
 abbrev pub GetsNoRow : Board → ℕ → Hand → Option PrivateRow → Tried (Option ℕ) → Hand → Type 0
 GetsNoRow b key start spare tried.Full k =
     (spare ≡ None) × HasSpare b k None × MeetsNoRow b key start k
 GetsNoRow b key start spare (tried.Again (why.Raced address expected found)) k =
-    HasSpare b k None × LosesHead start address expected found k
+    (spare ≡ None) × HasSpare b k None × LosesHead start address expected found k
 GetsNoRow b key start spare answer k = ⊥

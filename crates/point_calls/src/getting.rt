@@ -1,6 +1,6 @@
 //! A key is looked up.
 ghost use Rattle.std.specs.Prelude.{◌≡◌};
-ghost use Rattle.point_calls.specs.PointCalls.{CanCall, KeepsRows, OpensEmpty};
+ghost use Rattle.point_calls.specs.PointCalls.{CanCall, IsOneSection, KeepsRows, OpensEmpty};
 ghost use Rattle.point_calls.specs.Getting.{GetTells};
 
 use crate::lookup::{locate, look, miss};
@@ -18,6 +18,7 @@ pub fn get(board: &Board, hand: &mut Hand, key: u64) -> Tried<Option<u64>>
     requires empty { OpensEmpty board.now }
     ensures call { CanCall board.now hand.new }
     ensures number { hand.new.number ≡ hand.old.number }
+    ensures stays { IsOneSection hand.old hand.new }
     ensures rows { KeepsRows board.now hand.old hand.new }
     ensures tells { GetTells board.now key hand.old result hand.new }
 {

@@ -4,6 +4,7 @@
 //! moment of the call: where the load, the exchange or the store was made that decided it.
 #![tactic(auto)]
 
+mod found;
 mod getting;
 mod linking;
 mod lookup;

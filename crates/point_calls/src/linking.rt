@@ -3,17 +3,18 @@ ghost use Rattle.std.specs.Prelude.{◌≡◌, ◌<◌, ◌^◌, MatchResult, No
 ghost use Rattle.word_layout.specs.Words.{address_of};
 ghost use Rattle.index_machine.specs.Words.{limits, link_behind};
 ghost use Rattle.index_rule.specs.Hands.{opening_of};
-ghost use Rattle.point_calls.specs.PointCalls.{CanCall, HasSpare, OpensEmpty};
+ghost use Rattle.point_calls.specs.PointCalls.{CanCall, HasSpare, IsOneSection, OpensEmpty};
 ghost use Rattle.point_calls.specs.Putting.{HasFoundGap, IsFullOnly, MayLinkIn, PutTells};
-ghost use Rattle.point_calls.specs.Putting.{GetsNoRow};
+ghost use Rattle.point_calls.specs.Putting.{GetsNoRow, KeepsSpare};
 
+use crate::found::Gap;
 use delta_buffer::insert;
 use index_rule::{Board, Hand, Linked, PrivateRow, Tried, Why};
 use row_arena::{Taken, fill, take};
 use std::snapshot::Snapshot;
 use word_layout::{Phase, link_word};
 
-/// Links a row for the key between two places, tried once. It takes effect at the exchange of the
+/// Links a row for the key into the gap, tried once. It takes effect at the exchange of the
 /// link.
 #[inline]
 pub(crate) fn link_new(
@@ -21,38 +22,40 @@ pub(crate) fn link_new(
     hand: &mut Hand,
     start: &Snapshot<Hand>,
     spare: &mut Option<PrivateRow>,
-    group: u32,
-    before: u32,
-    next: u32,
-    key: u64,
+    gap: Gap,
     value: u64,
 ) -> Tried<Option<u64>>
     requires empty { OpensEmpty board.now }
     requires spare { HasSpare board.now hand.old spare.old }
-    requires found { HasFoundGap board.now start.now.value hand.old group key before next }
+    requires found { HasFoundGap board.now start.now.value hand.old gap }
     ensures call { CanCall board.now hand.new }
     ensures number { hand.new.number ≡ start.now.value.number }
+    ensures stays { IsOneSection start.now.value hand.new }
     ensures spare { HasSpare board.now hand.new spare.new }
-    ensures tells { PutTells board.now key value start.now.value result hand.new }
+    ensures tells { PutTells board.now gap.key value start.now.value result hand.new }
     ensures full { IsFullOnly spare.old result }
+    ensures kept { KeepsSpare spare.old result spare.new }
 {
-    let word = board.load_phase(hand, group);
+    let word = board.load_phase(hand, gap.group);
     // Frozen is met before a row is taken, so it stands before Full.
     if word != Phase::Open.word() {
-        return Tried::Again(Why::Frozen { group, word });
+        return Tried::Again(Why::Frozen {
+            group: gap.group,
+            word,
+        });
     }
-    let mut row = match own_row(board, hand, start, spare, group, before, next, key) {
+    let mut row = match own_row(board, hand, start, spare, gap) {
         Ok(row) => row,
         Err(refusal) => return refusal,
     };
-    fill(board, hand, &mut row, key, value);
-    match insert(board, hand, group, before, next, row) {
+    fill(board, hand, &mut row, gap.key, value);
+    match insert(board, hand, gap.group, gap.before, gap.next, row) {
         Linked::Done => Tried::Done(None),
         Linked::Raced { row, found } => {
             keep(spare, row);
             Tried::Again(Why::Raced {
-                place: link_address(board, group, before),
-                expected: next as u64,
+                place: link_address(board, gap.group, gap.before),
+                expected: gap.next as u64,
                 found,
             })
         }
@@ -66,18 +69,15 @@ fn own_row(
     hand: &mut Hand,
     start: &Snapshot<Hand>,
     spare: &mut Option<PrivateRow>,
-    group: u32,
-    before: u32,
-    next: u32,
-    key: u64,
+    gap: Gap,
 ) -> Result<PrivateRow, Tried<Option<u64>>>
     requires empty { OpensEmpty board.now }
     requires spare { HasSpare board.now hand.old spare.old }
-    requires may { MayLinkIn board.now start.now.value hand.old group key before next }
+    requires may { MayLinkIn board.now start.now.value hand.old gap }
     ensures gone { spare.new ≡ None }
-    ensures may { MayLinkIn board.now start.now.value hand.new group key before next }
+    ensures may { MayLinkIn board.now start.now.value hand.new gap }
     ensures answer { MatchResult result (λ row. HasSpare board.now hand.new (Some row))
-        (λ refusal. GetsNoRow board.now key start.now.value spare.old refusal hand.new) }
+        (λ refusal. GetsNoRow board.now gap.key start.now.value spare.old refusal hand.new) }
 {
     match spare.take() {
         Some(row) => Ok(row),

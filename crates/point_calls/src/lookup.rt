@@ -2,7 +2,7 @@
 ghost use Rattle.std.specs.Prelude.{◌≡◌, None};
 ghost use Rattle.index_rule.specs.Looks.{MayNote};
 ghost use Rattle.index_rule.specs.declared.tried.Tried.TheVariants.{Done};
-ghost use Rattle.point_calls.specs.PointCalls.{CanCall, KeepsRows, LooksUp};
+ghost use Rattle.point_calls.specs.PointCalls.{CanCall, IsOneSection, KeepsRows, LooksUp};
 ghost use Rattle.point_calls.specs.Lookup.{ComesTo, HasMissed};
 
 use index_rule::{Board, Hand, Tried};
@@ -32,6 +32,7 @@ pub(crate) fn miss(
     requires { HasMissed board.now start.now.value hand.old group key }
     ensures call { CanCall board.now hand.new }
     ensures number { hand.new.number ≡ start.now.value.number }
+    ensures stays { IsOneSection start.now.value hand.new }
     ensures rows { KeepsRows board.now start.now.value hand.new }
     ensures done { result ≡ Done None }
     ensures looks { LooksUp board.now key start.now.value None hand.new }
@@ -51,10 +52,12 @@ pub(crate) fn look(
     found: Option<u64>,
 ) -> Tried<Option<u64>>
     requires call { CanCall board.now hand.old }
+    requires section { IsOneSection start.now.value hand.old }
     requires rows { KeepsRows board.now start.now.value hand.old }
     requires may { MayNote board.now start.now.value hand.old key found }
     ensures call { CanCall board.now hand.new }
     ensures number { hand.new.number ≡ start.now.value.number }
+    ensures stays { IsOneSection start.now.value hand.new }
     ensures rows { KeepsRows board.now start.now.value hand.new }
     ensures done { result ≡ Done found }
     ensures looks { LooksUp board.now key start.now.value found hand.new }

@@ -1,9 +1,10 @@
 //! A row that a key has is given a value.
 ghost use Rattle.std.specs.Prelude.{◌≡◌, ◌≢◌};
 ghost use Rattle.index_rule.specs.declared.tried.Tried.TheVariants.{Full};
-ghost use Rattle.point_calls.specs.PointCalls.{CanCall, KeepsRows, OpensEmpty};
+ghost use Rattle.point_calls.specs.PointCalls.{CanCall, IsOneSection, KeepsRows, OpensEmpty};
 ghost use Rattle.point_calls.specs.Putting.{HasFoundRow, HasFoundTombstone, PutTells};
 
+use crate::found::FoundRow;
 use index_rule::{Board, Hand, Tried, Why};
 use record_cell::{Wrote, revive, update};
 use std::snapshot::Snapshot;
@@ -15,22 +16,21 @@ pub(crate) fn overwrite(
     board: &Board,
     hand: &mut Hand,
     start: &Snapshot<Hand>,
-    group: u32,
-    place: u32,
-    key: u64,
+    row: FoundRow,
     value: u64,
 ) -> Tried<Option<u64>>
     requires empty { OpensEmpty board.now }
-    requires found { HasFoundRow board.now start.now.value hand.old group key place }
+    requires found { HasFoundRow board.now start.now.value hand.old row }
     ensures call { CanCall board.now hand.new }
     ensures number { hand.new.number ≡ start.now.value.number }
+    ensures stays { IsOneSection start.now.value hand.new }
     ensures rows { KeepsRows board.now start.now.value hand.new }
-    ensures tells { PutTells board.now key value start.now.value result hand.new }
+    ensures tells { PutTells board.now row.key value start.now.value result hand.new }
     ensures not_full { result ≢ Full }
 {
-    match update(board, hand, place, value) {
+    match update(board, hand, row.place, value) {
         Wrote::Done { old } => Tried::Done(old),
-        Wrote::Gone { word } => bring_back(board, hand, start, group, place, word, key, value),
+        Wrote::Gone { word } => bring_back(board, hand, start, row, word, value),
         Wrote::Live { .. } => unreachable!(),
         Wrote::Locked { place, word } => Tried::Again(Why::Locked { place, word }),
         Wrote::Raced {
@@ -52,27 +52,26 @@ fn bring_back(
     board: &Board,
     hand: &mut Hand,
     start: &Snapshot<Hand>,
-    group: u32,
-    place: u32,
+    row: FoundRow,
     first: u64,
-    key: u64,
     value: u64,
 ) -> Tried<Option<u64>>
     requires empty { OpensEmpty board.now }
-    requires found { HasFoundTombstone board.now start.now.value hand.old group key place first }
+    requires found { HasFoundTombstone board.now start.now.value hand.old row first }
     ensures call { CanCall board.now hand.new }
     ensures number { hand.new.number ≡ start.now.value.number }
+    ensures stays { IsOneSection start.now.value hand.new }
     ensures rows { KeepsRows board.now start.now.value hand.new }
-    ensures tells { PutTells board.now key value start.now.value result hand.new }
+    ensures tells { PutTells board.now row.key value start.now.value result hand.new }
     ensures not_full { result ≢ Full }
 {
     // The group is open, so the caller has leave to insert from here on.
-    board.load_phase(hand, group);
-    match revive(board, hand, place, value) {
+    board.load_phase(hand, row.group);
+    match revive(board, hand, row.place, value) {
         Wrote::Done { old } => Tried::Done(old),
         Wrote::Gone { .. } => unreachable!(),
         Wrote::Live { word } => Tried::Again(Why::Changed {
-            place,
+            place: row.place,
             first,
             second: word,
         }),

@@ -1,8 +1,9 @@
 //! A key is put.
 ghost use Rattle.std.specs.Prelude.{◌≡◌};
-ghost use Rattle.point_calls.specs.PointCalls.{CanCall, HasSpare, OpensEmpty};
-ghost use Rattle.point_calls.specs.Putting.{IsFullOnly, PutTells};
+ghost use Rattle.point_calls.specs.PointCalls.{CanCall, HasSpare, IsOneSection, OpensEmpty};
+ghost use Rattle.point_calls.specs.Putting.{IsFullOnly, KeepsSpare, PutTells};
 
+use crate::found::{FoundRow, Gap};
 use crate::linking::link_new;
 use crate::lookup::locate;
 use crate::overwriting::overwrite;
@@ -26,16 +27,27 @@ pub fn put(
     requires spare { HasSpare board.now hand.old spare.old }
     ensures call { CanCall board.now hand.new }
     ensures number { hand.new.number ≡ hand.old.number }
+    ensures stays { IsOneSection hand.old hand.new }
     ensures spare { HasSpare board.now hand.new spare.new }
     ensures tells { PutTells board.now key value hand.old result hand.new }
     ensures full { IsFullOnly spare.old result }
+    ensures kept { KeepsSpare spare.old result spare.new }
 {
     let start = Snapshot::of(&*hand);
     let group = locate(board, hand);
     match find(board, hand, group, key) {
-        Found::Row(place) => overwrite(board, hand, &start, group, place, key, value),
         Found::Gap { before, next } => {
-            link_new(board, hand, &start, spare, group, before, next, key, value)
+            let gap = Gap {
+                group,
+                before,
+                next,
+                key,
+            };
+            link_new(board, hand, &start, spare, gap, value)
+        }
+        Found::Row(place) => {
+            let row = FoundRow { group, place, key };
+            overwrite(board, hand, &start, row, value)
         }
     }
 }

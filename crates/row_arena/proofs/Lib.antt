@@ -1,2 +1,4 @@
 pub mod HeldRows
 pub mod NewHands
+mod RowCounting
+pub mod UsedRows

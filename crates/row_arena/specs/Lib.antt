@@ -1,3 +1,4 @@
 pub mod Taking
 pub mod Giving
 pub mod Visits
+pub mod Fullness

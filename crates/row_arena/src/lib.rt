@@ -2,9 +2,11 @@
 #![tactic(auto)]
 
 mod giving;
+mod laws;
 mod taking;
 #[cfg(test)]
 mod tests;
 
 pub use giving::{Given, give};
+pub use laws::{no_free_row_means_used_up, used_up_rows_stay_so};
 pub use taking::{Taken, fill, take};

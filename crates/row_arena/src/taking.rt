@@ -4,6 +4,7 @@ ghost use Rattle.index_machine.specs.Rows.{Holds, HoldsNone};
 ghost use Rattle.index_machine.specs.Conditions.{IsReading, MayLeave};
 ghost use Rattle.index_rule.specs.Hands.{IsHandOf, known, opening_of};
 ghost use Rattle.index_rule.specs.OwnRows.{place_of_private};
+ghost use Rattle.row_arena.specs.Fullness.{RowsAreUsedUp};
 ghost use Rattle.row_arena.specs.Taking.{Fills, TakesRow, HoldsTaken};
 
 use index_rule::{Board, Hand, OwnRow, PrivateRow, Swap};
@@ -35,6 +36,7 @@ pub fn take(board: &Board, hand: &mut Hand) -> Taken
     ensures may_leave { MayLeave (opening_of board.now) hand.old.number (known hand.old) →
         MayLeave (opening_of board.now) hand.new.number (known hand.new) }
     ensures holds { HoldsTaken (opening_of board.now) hand.new.number result (known hand.new) }
+    ensures used_up { result ≡ Taken.Empty → RowsAreUsedUp (opening_of board.now) (known hand.new) }
 {
     let head = board.load_free(hand);
     if head == 0 {

@@ -5,3 +5,8 @@ pub returns-in-Gap-clause-finds : goal.returns-in-Gap-clause-finds
 returns-in-Gap-clause-finds c =
     first_behind c.args.board.now c.args.group c.args.key c.in-Gap.before c.in-Gap.next
     c.args.hand.now c.find.new.hand c.in-Gap.ensures.finds c.in-Gap.next-test.1
+
+pub returns-in-Gap-default-eq0-clause-finds : goal.returns-in-Gap-default-eq0-clause-finds
+returns-in-Gap-default-eq0-clause-finds c =
+    let gap = c.in-Gap-default-eq0.ensures.finds in
+    (gap.moment, gap.within, gap.empty.end c.in-Gap-default-eq0.next-test)

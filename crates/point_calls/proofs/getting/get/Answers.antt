@@ -6,7 +6,7 @@ use Rattle.index_rule.specs.declared.tried.Tried.{Tried}
 use Rattle.index_rule.specs.Looks.{MayNote}
 use Rattle.point_calls.specs.Getting.{GetTells}
 use Rattle.point_calls.specs.Lookup.{HasMissed}
-use Rattle.point_calls.specs.PointCalls.{KeepsRows, LooksUp}
+use Rattle.point_calls.specs.PointCalls.{IsOneSection, KeepsRows, LooksUp}
 use Rattle.point_calls.proofs.Knowing.{built_at, in_walk, valid_at, within_whole}
 use Rattle.point_calls.proofs.Missing.{gap_absent, group_opened, in_comes, missed}
 use Rattle.point_calls.proofs.RowReading.{in_again, in_found, may_note, meets_change, meets_lock}
@@ -40,6 +40,21 @@ pub read-requires : goal.read-requires
 read-requires c =
     ready_row c.args.board.now c.locate-group.result c.args.key c.in-Row.place c.find.new.hand
     c.find.ensures.search c.in-Row.ensures.finds
+
+pub look-requires-clause-section : goal.look-requires-clause-section
+look-requires-clause-section c =
+    let b = c.args.board.now in
+    let h = c.args.hand.now in
+    let l = c.locate-group.new.hand in
+    let n = c.find.new.hand in
+    let g : ℕ = c.locate-group.result in
+    let w = c.find.ensures.steps in
+    let i = in_walk b g h l w.0 n w.1 w.2
+    (in_comes b h l g c.requires.call.of c.locate-group.ensures.comes) in
+    let s = c.in-Live.ensures.steps in
+    subst (λ (z : Hand). IsOneSection z c.read.new.hand) (sym c.of-start.ensures)
+    (in_again b h n g c.args.key c.in-Row.place i c.find.ensures.search c.in-Row.ensures.finds s.2 s.0 s.1
+    s.3 s.5.0 c.read.new.hand c.in-Live.value s.1 s.5.1 s.5.2).section
 
 pub look-requires-clause-rows : goal.look-requires-clause-rows
 look-requires-clause-rows c =
@@ -99,6 +114,19 @@ miss-requires-in-Gone c =
     (c.read.ensures.log ∙ (c.find.ensures.log ∙ comes.no_entry))
     (group_opened b h l g key comes il.built most) c.in-Gone.ensures.tells)
 
+pub returns-in-Locked-clause-stays : goal.returns-in-Locked-clause-stays
+returns-in-Locked-clause-stays c =
+    let b = c.args.board.now in
+    let h = c.args.hand.now in
+    let l = c.locate-group.new.hand in
+    let n = c.find.new.hand in
+    let g : ℕ = c.locate-group.result in
+    let w = c.find.ensures.steps in
+    let i = in_walk b g h l w.0 n w.1 w.2
+    (in_comes b h l g c.requires.call.of c.locate-group.ensures.comes) in
+    (in_found b h n g c.args.key c.in-Row.place i c.find.ensures.search c.in-Row.ensures.finds
+    c.read.new.hand c.in-Locked.place c.in-Locked.word c.in-Locked.ensures.steps.0).section
+
 pub returns-in-Locked-clause-rows : goal.returns-in-Locked-clause-rows
 returns-in-Locked-clause-rows c =
     let b = c.args.board.now in
@@ -127,6 +155,21 @@ returns-in-Locked-clause-tells c =
           c.read.new.hand c.in-Locked.place c.in-Locked.word c.in-Locked.ensures.steps.0
           c.in-Locked.ensures.steps.1 c.in-Locked.ensures.tells,
     )
+
+pub returns-clause-stays : goal.returns-clause-stays
+returns-clause-stays c =
+    let b = c.args.board.now in
+    let h = c.args.hand.now in
+    let l = c.locate-group.new.hand in
+    let n = c.find.new.hand in
+    let g : ℕ = c.locate-group.result in
+    let w = c.find.ensures.steps in
+    let i = in_walk b g h l w.0 n w.1 w.2
+    (in_comes b h l g c.requires.call.of c.locate-group.ensures.comes) in
+    let s = c.in-Changed.ensures.steps in
+    (in_again b h n g c.args.key c.in-Row.place i c.find.ensures.search c.in-Row.ensures.finds s.1
+    c.in-Changed.place c.in-Changed.first s.2 s.4.0 c.read.new.hand s.0 c.in-Changed.second s.4.1
+    s.4.2).section
 
 pub returns-clause-rows : goal.returns-clause-rows
 returns-clause-rows c =

@@ -2,11 +2,11 @@ use Rattle.std.proofs.Common.{ℕ, refl, sym, ◌∙◌, subst}
 use Rattle.index_machine.specs.declared.events.Action.TheVariants.{FailPop, LoadFree, LoadFreeLink}
 use Rattle.index_machine.specs.declared.events.Action.TheVariants.{PopFree}
 use Rattle.index_rule.specs.declared.hand.Hand.{Hand}
-use Rattle.index_rule.specs.Hands.{Makes, known}
+use Rattle.index_rule.specs.Hands.{Makes}
 use Rattle.index_rule.specs.OwnRows.{place_of_private}
-use Rattle.index_machine.proofs.Executions.{continues_trans}
 use Rattle.index_rule.proofs.Calls.{goes_on}
-use Rattle.point_calls.proofs.Knowing.{made_on}
+use Rattle.delta_buffer.proofs.CallSteps.{made_on}
+use Rattle.point_calls.proofs.Knowing.{made_behind}
 use Rattle.point_calls.proofs.NewRows.{is_missing, made_there, may_on}
 use Rattle.point_calls.proofs.linking.own_row.Goals as goal
 
@@ -16,10 +16,7 @@ returns-in-Row-clause-may c =
     let h = c.args.start.now.value in
     let n = c.args.hand.now in
     let k = c.take-in-None.new.hand in
-    let g : ℕ = c.args.group in
-    let key : ℕ = c.args.key in
-    let p : ℕ = c.args.before in
-    let q : ℕ = c.args.next in
+    let gap = c.args.gap in
     let s = c.in-Row.ensures.steps in
     let all = s.1.1 in
     let x : ℕ = place_of_private c.in-Row.row in
@@ -27,9 +24,12 @@ returns-in-Row-clause-may c =
     let one = all.1.0 in
     let loads : Makes b n (LoadFree x) one =
     subst (λ (z : Hand). Makes b z (LoadFree x) one) all.1.1.1 all.1.1.2 in
-    let may1 = may_on b h n one g key p q (LoadFree x) (record { none = tt; free = λ z. z; keeps = λ o t log. refl }) loads c.requires.may in
-    let may2 = may_on b h one last g key p q (LoadFreeLink x s.1.0) (record { none = tt; free = λ z. z; keeps = λ o t log. refl }) all.1.2 may1 in
-    may_on b h last k g key p q (PopFree x s.1.0) (record { none = tt; free = λ z. z; keeps = λ o t log. refl }) all.2 may2
+    let may1 = may_on b h n one gap (LoadFree x)
+    (record { none = tt; free = λ z. z; keeps = λ o t log. refl }) loads c.requires.may in
+    let may2 = may_on b h one last gap (LoadFreeLink x s.1.0)
+    (record { none = tt; free = λ z. z; keeps = λ o t log. refl }) all.1.2 may1 in
+    may_on b h last k gap (PopFree x s.1.0)
+    (record { none = tt; free = λ z. z; keeps = λ o t log. refl }) all.2 may2
 
 pub returns-in-Empty-clause-may : goal.returns-in-Empty-clause-may
 returns-in-Empty-clause-may c =
@@ -37,14 +37,11 @@ returns-in-Empty-clause-may c =
     let h = c.args.start.now.value in
     let n = c.args.hand.now in
     let k = c.take-in-None.new.hand in
-    let g : ℕ = c.args.group in
-    let key : ℕ = c.args.key in
-    let p : ℕ = c.args.before in
-    let q : ℕ = c.args.next in
+    let gap = c.args.gap in
     let s = c.in-Empty.ensures.steps in
     let loads : Makes b n (LoadFree 0) k = subst (λ (z : Hand). Makes b z (LoadFree 0) k) s.1 s.2 in
-    let may = may_on b h n k g key p q (LoadFree 0) (record { none = tt; free = λ z. z; keeps = λ o t log. refl }) loads c.requires.may in
-    may
+    may_on b h n k gap (LoadFree 0)
+    (record { none = tt; free = λ z. z; keeps = λ o t log. refl }) loads c.requires.may
 
 pub returns-in-Empty-clause-answer : goal.returns-in-Empty-clause-answer
 returns-in-Empty-clause-answer c =
@@ -52,18 +49,17 @@ returns-in-Empty-clause-answer c =
     let h = c.args.start.now.value in
     let n = c.args.hand.now in
     let k = c.take-in-None.new.hand in
-    let g : ℕ = c.args.group in
-    let key : ℕ = c.args.key in
-    let p : ℕ = c.args.before in
-    let q : ℕ = c.args.next in
+    let gap = c.args.gap in
     let s = c.in-Empty.ensures.steps in
     let loads : Makes b n (LoadFree 0) k = subst (λ (z : Hand). Makes b z (LoadFree 0) k) s.1 s.2 in
-    let may = may_on b h n k g key p q (LoadFree 0) (record { none = tt; free = λ z. z; keeps = λ o t log. refl }) loads c.requires.may in (
+    let may = may_on b h n k gap (LoadFree 0)
+    (record { none = tt; free = λ z. z; keeps = λ o t log. refl }) loads c.requires.may in (
       sym c.take.ensures.value ∙ c.in-None.is,
       c.in-Empty.ensures.holds,
       (
-        made_there b h n k g key p q (LoadFree 0) c.requires.may loads,
-        is_missing b h k g key p q c.requires.empty may,
+        made_there b h n k gap (LoadFree 0) c.requires.may loads,
+        is_missing b h k gap c.requires.empty may,
+        c.in-Empty.ensures.used_up refl,
       ),
     )
 
@@ -73,10 +69,7 @@ returns-in-Raced-clause-may c =
     let h = c.args.start.now.value in
     let n = c.args.hand.now in
     let k = c.take-in-None.new.hand in
-    let g : ℕ = c.args.group in
-    let key : ℕ = c.args.key in
-    let p : ℕ = c.args.before in
-    let q : ℕ = c.args.next in
+    let gap = c.args.gap in
     let s = c.in-Raced.ensures.steps in
     let all = s.2.1 in
     let x : ℕ = c.in-Raced.expected in
@@ -84,9 +77,12 @@ returns-in-Raced-clause-may c =
     let one = all.1.0 in
     let loads : Makes b n (LoadFree x) one =
     subst (λ (z : Hand). Makes b z (LoadFree x) one) all.1.1.1 all.1.1.2 in
-    let may1 = may_on b h n one g key p q (LoadFree x) (record { none = tt; free = λ z. z; keeps = λ o t log. refl }) loads c.requires.may in
-    let may2 = may_on b h one last g key p q (LoadFreeLink x s.2.0) (record { none = tt; free = λ z. z; keeps = λ o t log. refl }) all.1.2 may1 in
-    may_on b h last k g key p q (FailPop x c.in-Raced.found) (record { none = tt; free = λ z. z; keeps = λ o t log. refl }) all.2 may2
+    let may1 = may_on b h n one gap (LoadFree x)
+    (record { none = tt; free = λ z. z; keeps = λ o t log. refl }) loads c.requires.may in
+    let may2 = may_on b h one last gap (LoadFreeLink x s.2.0)
+    (record { none = tt; free = λ z. z; keeps = λ o t log. refl }) all.1.2 may1 in
+    may_on b h last k gap (FailPop x c.in-Raced.found)
+    (record { none = tt; free = λ z. z; keeps = λ o t log. refl }) all.2 may2
 
 pub returns-in-Raced-clause-answer : goal.returns-in-Raced-clause-answer
 returns-in-Raced-clause-answer c =
@@ -94,10 +90,7 @@ returns-in-Raced-clause-answer c =
     let h = c.args.start.now.value in
     let n = c.args.hand.now in
     let k = c.take-in-None.new.hand in
-    let g : ℕ = c.args.group in
-    let key : ℕ = c.args.key in
-    let p : ℕ = c.args.before in
-    let q : ℕ = c.args.next in
+    let gap = c.args.gap in
     let s = c.in-Raced.ensures.steps in
     let all = s.2.1 in
     let x : ℕ = c.in-Raced.expected in
@@ -105,16 +98,19 @@ returns-in-Raced-clause-answer c =
     let one = all.1.0 in
     let loads : Makes b n (LoadFree x) one =
     subst (λ (z : Hand). Makes b z (LoadFree x) one) all.1.1.1 all.1.1.2 in
-    let may1 = may_on b h n one g key p q (LoadFree x) (record { none = tt; free = λ z. z; keeps = λ o t log. refl }) loads c.requires.may in
-    let may2 = may_on b h one last g key p q (LoadFreeLink x s.2.0) (record { none = tt; free = λ z. z; keeps = λ o t log. refl }) all.1.2 may1 in (
+    let may1 = may_on b h n one gap (LoadFree x)
+    (record { none = tt; free = λ z. z; keeps = λ o t log. refl }) loads c.requires.may in
+    let may2 = may_on b h one last gap (LoadFreeLink x s.2.0)
+    (record { none = tt; free = λ z. z; keeps = λ o t log. refl }) all.1.2 may1 in (
+      sym c.take.ensures.value ∙ c.in-None.is,
       c.in-Raced.ensures.holds,
       record {
         is_address = refl;
-        loaded = made_on h one k (LoadFree x) (made_there b h n one g key p q (LoadFree x) c.requires.may loads)
-            (continues_trans (known one) (known last) (known k)
-            (goes_on b one last (LoadFreeLink x s.2.0) may1.search.of all.1.2)
-            (goes_on b last k (FailPop x c.in-Raced.found) may2.search.of all.2));
-        failed = made_there b h last k g key p q (FailPop x c.in-Raced.found) may2 all.2;
+        steps = made_behind b h last k (LoadFree x) (FailPop x c.in-Raced.found) may2.number may2.search.of
+            (made_on h one last (LoadFree x)
+            (made_there b h n one gap (LoadFree x) c.requires.may loads)
+            (goes_on b one last (LoadFreeLink x s.2.0) may1.search.of all.1.2))
+            all.2;
         differ = s.1;
       },
     )

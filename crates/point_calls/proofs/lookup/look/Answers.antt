@@ -1,5 +1,5 @@
 use Rattle.std.proofs.Common.{◌∙◌, refl}
-use Rattle.point_calls.proofs.Knowing.{call_noted, looked_up, spare_noted}
+use Rattle.point_calls.proofs.Knowing.{call_noted, looked_up, section_noted, spare_noted}
 use Rattle.point_calls.proofs.lookup.look.Goals as goal
 
 pub returns : goal.returns
@@ -12,6 +12,8 @@ returns c =
     record {
       call = call_noted b start h k c.args.key c.args.found e.noted e.number e.hand c.requires.call;
       number = e.number ∙ c.requires.may.number;
+      stays = section_noted b start h k c.args.key c.args.found e.noted e.number
+          c.requires.section;
       rows = λ spare has. spare_noted b start h k c.args.key c.args.found e.noted e.number spare
           (c.requires.rows spare has);
       done = refl;

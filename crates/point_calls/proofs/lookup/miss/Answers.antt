@@ -2,7 +2,7 @@ use Rattle.std.proofs.Common.{refl, ◌∙◌}
 use Rattle.index_machine.specs.declared.events.Action.TheVariants.{LoadPhase}
 use Rattle.index_rule.proofs.Calls.{goes_on}
 use Rattle.index_rule.proofs.RecordReading.{no_entry}
-use Rattle.point_calls.proofs.Knowing.{call_on, spare_on, within_on}
+use Rattle.point_calls.proofs.Knowing.{call_on, section_on, spare_on, within_on}
 use Rattle.point_calls.proofs.lookup.miss.Goals as goal
 
 pub look-requires : goal.look-requires
@@ -16,6 +16,7 @@ look-requires c =
     let call = call_on b h k load tt (λ z. z) m r.call in
     record {
       call = call;
+      section = section_on b c.args.start.now.value h k load tt r.call.of m r.section;
       rows = λ spare has. spare_on b h k load r.call.of m tt spare (r.rows spare has);
       may = record {
         began = r.began;

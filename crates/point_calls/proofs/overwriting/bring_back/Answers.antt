@@ -14,7 +14,7 @@ use Rattle.point_calls.proofs.overwriting.bring_back.Goals as goal
 
 pub load_phase-requires-clause-may : goal.load_phase-requires-clause-may
 load_phase-requires-clause-may c =
-    sees_phase c.args.board.now c.args.start.now.value c.args.hand.now c.args.group c.args.key
+    sees_phase c.args.board.now c.args.start.now.value c.args.hand.now c.args.row.group c.args.row.key
     c.requires.found.found.group_of
 
 pub revive-requires-clause-ready : goal.revive-requires-clause-ready
@@ -23,9 +23,9 @@ revive-requires-clause-ready c =
     let h = c.args.start.now.value in
     let before = c.args.hand.now in
     let n = c.load_phase.new.hand in
-    let g : ℕ = c.args.group in
-    let key : ℕ = c.args.key in
-    let place : ℕ = c.args.place in
+    let g : ℕ = c.args.row.group in
+    let key : ℕ = c.args.row.key in
+    let place : ℕ = c.args.row.place in
     let stone = c.requires.found in
     let at = stone.found.group_of in
     let m = c.load_phase.ensures in
@@ -42,9 +42,9 @@ revive-requires-clause-may c =
     let h = c.args.start.now.value in
     let before = c.args.hand.now in
     let n = c.load_phase.new.hand in
-    let g : ℕ = c.args.group in
-    let key : ℕ = c.args.key in
-    let place : ℕ = c.args.place in
+    let g : ℕ = c.args.row.group in
+    let key : ℕ = c.args.row.key in
+    let place : ℕ = c.args.row.place in
     let stone = c.requires.found in
     let at = stone.found.group_of in
     let m = c.load_phase.ensures in
@@ -62,9 +62,9 @@ state_word-requires c =
     let before = c.args.hand.now in
     let n = c.load_phase.new.hand in
     let k = c.revive.new.hand in
-    let g : ℕ = c.args.group in
-    let key : ℕ = c.args.key in
-    let place : ℕ = c.args.place in
+    let g : ℕ = c.args.row.group in
+    let key : ℕ = c.args.row.key in
+    let place : ℕ = c.args.row.place in
     let stone = c.requires.found in
     let at = stone.found.group_of in
     let m = c.load_phase.ensures in
@@ -86,6 +86,26 @@ state_word-requires c =
     of_key_below b h k key p (in_failed b h n g key place i can row k q p x y (inl (s.0, loads)) fails)
     (of_row b n k g key place p row.0 t.1)
 
+pub returns-in-Done-clause-stays : goal.returns-in-Done-clause-stays
+returns-in-Done-clause-stays c =
+    let b = c.args.board.now in
+    let h = c.args.start.now.value in
+    let before = c.args.hand.now in
+    let n = c.load_phase.new.hand in
+    let k = c.revive.new.hand in
+    let g : ℕ = c.args.row.group in
+    let key : ℕ = c.args.row.key in
+    let place : ℕ = c.args.row.place in
+    let stone = c.requires.found in
+    let at = stone.found.group_of in
+    let m = c.load_phase.ensures in
+    let seen = group_seen b h before n g key c.load_phase.result at m in
+    let row = row_seen b h before n g key c.load_phase.result at m place stone.found.row in
+    let can = seen.search in
+    let none = seen.no_entry in
+    let i = is_in b h n g key seen in
+    (in_revived b h n g key place seen k c.args.value c.in-Done.old c.in-Done.ensures.steps).section
+
 pub returns-in-Done-clause-rows : goal.returns-in-Done-clause-rows
 returns-in-Done-clause-rows c =
     let b = c.args.board.now in
@@ -93,9 +113,9 @@ returns-in-Done-clause-rows c =
     let before = c.args.hand.now in
     let n = c.load_phase.new.hand in
     let k = c.revive.new.hand in
-    let g : ℕ = c.args.group in
-    let key : ℕ = c.args.key in
-    let place : ℕ = c.args.place in
+    let g : ℕ = c.args.row.group in
+    let key : ℕ = c.args.row.key in
+    let place : ℕ = c.args.row.place in
     let stone = c.requires.found in
     let at = stone.found.group_of in
     let m = c.load_phase.ensures in
@@ -113,9 +133,9 @@ returns-in-Done-clause-tells c =
     let before = c.args.hand.now in
     let n = c.load_phase.new.hand in
     let k = c.revive.new.hand in
-    let g : ℕ = c.args.group in
-    let key : ℕ = c.args.key in
-    let place : ℕ = c.args.place in
+    let g : ℕ = c.args.row.group in
+    let key : ℕ = c.args.row.key in
+    let place : ℕ = c.args.row.place in
     let stone = c.requires.found in
     let at = stone.found.group_of in
     let m = c.load_phase.ensures in
@@ -127,16 +147,16 @@ returns-in-Done-clause-tells c =
     adds_whole b h n k (put_at b n place c.args.value) (Put h.number key c.args.value) c.in-Done.old i none
     (put_is b h n g key place i can row c.args.value) c.in-Done.ensures.tells
 
-pub returns-in-Live-clause-rows : goal.returns-in-Live-clause-rows
-returns-in-Live-clause-rows c =
+pub returns-in-Live-clause-stays : goal.returns-in-Live-clause-stays
+returns-in-Live-clause-stays c =
     let b = c.args.board.now in
     let h = c.args.start.now.value in
     let before = c.args.hand.now in
     let n = c.load_phase.new.hand in
     let k = c.revive.new.hand in
-    let g : ℕ = c.args.group in
-    let key : ℕ = c.args.key in
-    let place : ℕ = c.args.place in
+    let g : ℕ = c.args.row.group in
+    let key : ℕ = c.args.row.key in
+    let place : ℕ = c.args.row.place in
     let stone = c.requires.found in
     let at = stone.found.group_of in
     let m = c.load_phase.ensures in
@@ -145,7 +165,27 @@ returns-in-Live-clause-rows c =
     let can = seen.search in
     let none = seen.no_entry in
     let i = is_in b h n g key seen in
-    (in_step b h n k (LoadState place c.in-Live.word) tt c.in-Live.ensures.steps.0 i).rows
+    (in_step b h n k (LoadState place c.in-Live.word) tt tt c.in-Live.ensures.steps.0 i).section
+
+pub returns-in-Live-clause-rows : goal.returns-in-Live-clause-rows
+returns-in-Live-clause-rows c =
+    let b = c.args.board.now in
+    let h = c.args.start.now.value in
+    let before = c.args.hand.now in
+    let n = c.load_phase.new.hand in
+    let k = c.revive.new.hand in
+    let g : ℕ = c.args.row.group in
+    let key : ℕ = c.args.row.key in
+    let place : ℕ = c.args.row.place in
+    let stone = c.requires.found in
+    let at = stone.found.group_of in
+    let m = c.load_phase.ensures in
+    let seen = group_seen b h before n g key c.load_phase.result at m in
+    let row = row_seen b h before n g key c.load_phase.result at m place stone.found.row in
+    let can = seen.search in
+    let none = seen.no_entry in
+    let i = is_in b h n g key seen in
+    (in_step b h n k (LoadState place c.in-Live.word) tt tt c.in-Live.ensures.steps.0 i).rows
 
 pub returns-in-Live-clause-tells : goal.returns-in-Live-clause-tells
 returns-in-Live-clause-tells c =
@@ -154,9 +194,9 @@ returns-in-Live-clause-tells c =
     let before = c.args.hand.now in
     let n = c.load_phase.new.hand in
     let k = c.revive.new.hand in
-    let g : ℕ = c.args.group in
-    let key : ℕ = c.args.key in
-    let place : ℕ = c.args.place in
+    let g : ℕ = c.args.row.group in
+    let key : ℕ = c.args.row.key in
+    let place : ℕ = c.args.row.place in
     let stone = c.requires.found in
     let at = stone.found.group_of in
     let m = c.load_phase.ensures in
@@ -171,6 +211,27 @@ returns-in-Live-clause-tells c =
           c.load_phase.result m row s.1,
     )
 
+pub returns-in-Locked-clause-stays : goal.returns-in-Locked-clause-stays
+returns-in-Locked-clause-stays c =
+    let b = c.args.board.now in
+    let h = c.args.start.now.value in
+    let before = c.args.hand.now in
+    let n = c.load_phase.new.hand in
+    let k = c.revive.new.hand in
+    let g : ℕ = c.args.row.group in
+    let key : ℕ = c.args.row.key in
+    let place : ℕ = c.args.row.place in
+    let stone = c.requires.found in
+    let at = stone.found.group_of in
+    let m = c.load_phase.ensures in
+    let seen = group_seen b h before n g key c.load_phase.result at m in
+    let row = row_seen b h before n g key c.load_phase.result at m place stone.found.row in
+    let can = seen.search in
+    let none = seen.no_entry in
+    let i = is_in b h n g key seen in
+    let s = c.in-Locked.ensures.steps in
+    (in_found b h n g key place i can row k c.in-Locked.place c.in-Locked.word (inl (s.0, s.1))).section
+
 pub returns-in-Locked-clause-rows : goal.returns-in-Locked-clause-rows
 returns-in-Locked-clause-rows c =
     let b = c.args.board.now in
@@ -178,9 +239,9 @@ returns-in-Locked-clause-rows c =
     let before = c.args.hand.now in
     let n = c.load_phase.new.hand in
     let k = c.revive.new.hand in
-    let g : ℕ = c.args.group in
-    let key : ℕ = c.args.key in
-    let place : ℕ = c.args.place in
+    let g : ℕ = c.args.row.group in
+    let key : ℕ = c.args.row.key in
+    let place : ℕ = c.args.row.place in
     let stone = c.requires.found in
     let at = stone.found.group_of in
     let m = c.load_phase.ensures in
@@ -199,9 +260,9 @@ returns-in-Locked-clause-tells c =
     let before = c.args.hand.now in
     let n = c.load_phase.new.hand in
     let k = c.revive.new.hand in
-    let g : ℕ = c.args.group in
-    let key : ℕ = c.args.key in
-    let place : ℕ = c.args.place in
+    let g : ℕ = c.args.row.group in
+    let key : ℕ = c.args.row.key in
+    let place : ℕ = c.args.row.place in
     let stone = c.requires.found in
     let at = stone.found.group_of in
     let m = c.load_phase.ensures in
@@ -217,6 +278,36 @@ returns-in-Locked-clause-tells c =
           t.1,
     )
 
+pub returns-in-Raced-clause-stays : goal.returns-in-Raced-clause-stays
+returns-in-Raced-clause-stays c =
+    let b = c.args.board.now in
+    let h = c.args.start.now.value in
+    let before = c.args.hand.now in
+    let n = c.load_phase.new.hand in
+    let k = c.revive.new.hand in
+    let g : ℕ = c.args.row.group in
+    let key : ℕ = c.args.row.key in
+    let place : ℕ = c.args.row.place in
+    let stone = c.requires.found in
+    let at = stone.found.group_of in
+    let m = c.load_phase.ensures in
+    let seen = group_seen b h before n g key c.load_phase.result at m in
+    let row = row_seen b h before n g key c.load_phase.result at m place stone.found.row in
+    let can = seen.search in
+    let none = seen.no_entry in
+    let i = is_in b h n g key seen in
+    let s = c.in-Raced.ensures.steps in
+    let t = c.in-Raced.ensures.tells in
+    let p : ℕ = c.in-Raced.place in
+    let x : ℕ = c.in-Raced.expected in
+    let y : ℕ = c.in-Raced.found in
+    let q = s.2.0 in
+    let loads : Makes b n (LoadState place x) q =
+    subst (λ (z : Hand). Makes b z (LoadState place x) q) s.2.1.1 s.2.1.2 in
+    let fails : Makes b q (FailLock p x y) k =
+    subst (λ (z : ℕ). Makes b q (FailLock z x y) k) (sym s.0) s.2.2 in
+    (in_failed b h n g key place i can row k q p x y (inl (s.0, loads)) fails).section
+
 pub returns-in-Raced-clause-rows : goal.returns-in-Raced-clause-rows
 returns-in-Raced-clause-rows c =
     let b = c.args.board.now in
@@ -224,9 +315,9 @@ returns-in-Raced-clause-rows c =
     let before = c.args.hand.now in
     let n = c.load_phase.new.hand in
     let k = c.revive.new.hand in
-    let g : ℕ = c.args.group in
-    let key : ℕ = c.args.key in
-    let place : ℕ = c.args.place in
+    let g : ℕ = c.args.row.group in
+    let key : ℕ = c.args.row.key in
+    let place : ℕ = c.args.row.place in
     let stone = c.requires.found in
     let at = stone.found.group_of in
     let m = c.load_phase.ensures in
@@ -254,9 +345,9 @@ returns-in-Raced-clause-tells c =
     let before = c.args.hand.now in
     let n = c.load_phase.new.hand in
     let k = c.revive.new.hand in
-    let g : ℕ = c.args.group in
-    let key : ℕ = c.args.key in
-    let place : ℕ = c.args.place in
+    let g : ℕ = c.args.row.group in
+    let key : ℕ = c.args.row.key in
+    let place : ℕ = c.args.row.place in
     let stone = c.requires.found in
     let at = stone.found.group_of in
     let m = c.load_phase.ensures in
@@ -280,6 +371,27 @@ returns-in-Raced-clause-tells c =
           (loses_lock b h n g key place i can row k q p x y (inl (s.0, loads)) fails s.3 t.1)),
     )
 
+pub returns-in-Worn-clause-stays : goal.returns-in-Worn-clause-stays
+returns-in-Worn-clause-stays c =
+    let b = c.args.board.now in
+    let h = c.args.start.now.value in
+    let before = c.args.hand.now in
+    let n = c.load_phase.new.hand in
+    let k = c.revive.new.hand in
+    let g : ℕ = c.args.row.group in
+    let key : ℕ = c.args.row.key in
+    let place : ℕ = c.args.row.place in
+    let stone = c.requires.found in
+    let at = stone.found.group_of in
+    let m = c.load_phase.ensures in
+    let seen = group_seen b h before n g key c.load_phase.result at m in
+    let row = row_seen b h before n g key c.load_phase.result at m place stone.found.row in
+    let can = seen.search in
+    let none = seen.no_entry in
+    let i = is_in b h n g key seen in
+    let s = c.in-Worn.ensures.steps in
+    (in_found b h n g key place i can row k c.in-Worn.place c.in-Worn.word (inl (s.0, s.1))).section
+
 pub returns-in-Worn-clause-rows : goal.returns-in-Worn-clause-rows
 returns-in-Worn-clause-rows c =
     let b = c.args.board.now in
@@ -287,9 +399,9 @@ returns-in-Worn-clause-rows c =
     let before = c.args.hand.now in
     let n = c.load_phase.new.hand in
     let k = c.revive.new.hand in
-    let g : ℕ = c.args.group in
-    let key : ℕ = c.args.key in
-    let place : ℕ = c.args.place in
+    let g : ℕ = c.args.row.group in
+    let key : ℕ = c.args.row.key in
+    let place : ℕ = c.args.row.place in
     let stone = c.requires.found in
     let at = stone.found.group_of in
     let m = c.load_phase.ensures in
@@ -308,9 +420,9 @@ returns-in-Worn-clause-tells c =
     let before = c.args.hand.now in
     let n = c.load_phase.new.hand in
     let k = c.revive.new.hand in
-    let g : ℕ = c.args.group in
-    let key : ℕ = c.args.key in
-    let place : ℕ = c.args.place in
+    let g : ℕ = c.args.row.group in
+    let key : ℕ = c.args.row.key in
+    let place : ℕ = c.args.row.place in
     let stone = c.requires.found in
     let at = stone.found.group_of in
     let m = c.load_phase.ensures in

@@ -13,9 +13,9 @@ update-requires c =
     let b = c.args.board.now in
     let h = c.args.start.now.value in
     let n = c.args.hand.now in
-    let g : ℕ = c.args.group in
-    let key : ℕ = c.args.key in
-    let place : ℕ = c.args.place in
+    let g : ℕ = c.args.row.group in
+    let key : ℕ = c.args.row.key in
+    let place : ℕ = c.args.row.place in
     let found = c.requires.found in
     let can = found.group_of.search in
     let row = found.row in
@@ -29,16 +29,16 @@ bring_back-requires-clause-found c =
     let h = c.args.start.now.value in
     let n = c.args.hand.now in
     let k = c.update.new.hand in
-    let g : ℕ = c.args.group in
-    let key : ℕ = c.args.key in
-    let place : ℕ = c.args.place in
+    let g : ℕ = c.args.row.group in
+    let key : ℕ = c.args.row.key in
+    let place : ℕ = c.args.row.place in
     let found = c.requires.found in
     let can = found.group_of.search in
     let row = found.row in
     let none = found.group_of.no_entry in
     let i = is_in b h n g key found.group_of in
     let s = c.in-Gone.ensures.steps in
-    found_stone b h n k g key place s.0 c.in-Gone.word found s.1 s.2 (c.in-Gone.ensures.tells.0 ∙ none)
+    found_stone b h n k c.args.row s.0 c.in-Gone.word found s.1 s.2 (c.in-Gone.ensures.tells.0 ∙ none)
 
 pub state_word-requires : goal.state_word-requires
 state_word-requires c =
@@ -46,9 +46,9 @@ state_word-requires c =
     let h = c.args.start.now.value in
     let n = c.args.hand.now in
     let k = c.update.new.hand in
-    let g : ℕ = c.args.group in
-    let key : ℕ = c.args.key in
-    let place : ℕ = c.args.place in
+    let g : ℕ = c.args.row.group in
+    let key : ℕ = c.args.row.key in
+    let place : ℕ = c.args.row.place in
     let found = c.requires.found in
     let can = found.group_of.search in
     let row = found.row in
@@ -60,15 +60,32 @@ state_word-requires c =
     s.1 s.3)
     (of_row b n k g key place c.in-Raced.place row.0 c.in-Raced.ensures.tells.1)
 
+pub returns-in-Done-clause-stays : goal.returns-in-Done-clause-stays
+returns-in-Done-clause-stays c =
+    let b = c.args.board.now in
+    let h = c.args.start.now.value in
+    let n = c.args.hand.now in
+    let k = c.update.new.hand in
+    let g : ℕ = c.args.row.group in
+    let key : ℕ = c.args.row.key in
+    let place : ℕ = c.args.row.place in
+    let found = c.requires.found in
+    let can = found.group_of.search in
+    let row = found.row in
+    let none = found.group_of.no_entry in
+    let i = is_in b h n g key found.group_of in
+    (in_done b h n g key place i can row k (put_at b n place c.args.value) c.in-Done.old
+    c.in-Done.ensures.steps).section
+
 pub returns-in-Done-clause-rows : goal.returns-in-Done-clause-rows
 returns-in-Done-clause-rows c =
     let b = c.args.board.now in
     let h = c.args.start.now.value in
     let n = c.args.hand.now in
     let k = c.update.new.hand in
-    let g : ℕ = c.args.group in
-    let key : ℕ = c.args.key in
-    let place : ℕ = c.args.place in
+    let g : ℕ = c.args.row.group in
+    let key : ℕ = c.args.row.key in
+    let place : ℕ = c.args.row.place in
     let found = c.requires.found in
     let can = found.group_of.search in
     let row = found.row in
@@ -83,9 +100,9 @@ returns-in-Done-clause-tells c =
     let h = c.args.start.now.value in
     let n = c.args.hand.now in
     let k = c.update.new.hand in
-    let g : ℕ = c.args.group in
-    let key : ℕ = c.args.key in
-    let place : ℕ = c.args.place in
+    let g : ℕ = c.args.row.group in
+    let key : ℕ = c.args.row.key in
+    let place : ℕ = c.args.row.place in
     let found = c.requires.found in
     let can = found.group_of.search in
     let row = found.row in
@@ -94,15 +111,32 @@ returns-in-Done-clause-tells c =
     adds_whole b h n k (put_at b n place c.args.value) (Put h.number key c.args.value) c.in-Done.old i none
     (put_is b h n g key place i can row c.args.value) c.in-Done.ensures.tells
 
+pub returns-in-Locked-clause-stays : goal.returns-in-Locked-clause-stays
+returns-in-Locked-clause-stays c =
+    let b = c.args.board.now in
+    let h = c.args.start.now.value in
+    let n = c.args.hand.now in
+    let k = c.update.new.hand in
+    let g : ℕ = c.args.row.group in
+    let key : ℕ = c.args.row.key in
+    let place : ℕ = c.args.row.place in
+    let found = c.requires.found in
+    let can = found.group_of.search in
+    let row = found.row in
+    let none = found.group_of.no_entry in
+    let i = is_in b h n g key found.group_of in
+    (in_found b h n g key place i can row k c.in-Locked.place c.in-Locked.word
+    c.in-Locked.ensures.steps.0).section
+
 pub returns-in-Locked-clause-rows : goal.returns-in-Locked-clause-rows
 returns-in-Locked-clause-rows c =
     let b = c.args.board.now in
     let h = c.args.start.now.value in
     let n = c.args.hand.now in
     let k = c.update.new.hand in
-    let g : ℕ = c.args.group in
-    let key : ℕ = c.args.key in
-    let place : ℕ = c.args.place in
+    let g : ℕ = c.args.row.group in
+    let key : ℕ = c.args.row.key in
+    let place : ℕ = c.args.row.place in
     let found = c.requires.found in
     let can = found.group_of.search in
     let row = found.row in
@@ -117,9 +151,9 @@ returns-in-Locked-clause-tells c =
     let h = c.args.start.now.value in
     let n = c.args.hand.now in
     let k = c.update.new.hand in
-    let g : ℕ = c.args.group in
-    let key : ℕ = c.args.key in
-    let place : ℕ = c.args.place in
+    let g : ℕ = c.args.row.group in
+    let key : ℕ = c.args.row.key in
+    let place : ℕ = c.args.row.place in
     let found = c.requires.found in
     let can = found.group_of.search in
     let row = found.row in
@@ -131,15 +165,33 @@ returns-in-Locked-clause-tells c =
       meets_lock b h n g key place i can row k c.in-Locked.place c.in-Locked.word s.0 s.1 t.1,
     )
 
+pub returns-in-Raced-clause-stays : goal.returns-in-Raced-clause-stays
+returns-in-Raced-clause-stays c =
+    let b = c.args.board.now in
+    let h = c.args.start.now.value in
+    let n = c.args.hand.now in
+    let k = c.update.new.hand in
+    let g : ℕ = c.args.row.group in
+    let key : ℕ = c.args.row.key in
+    let place : ℕ = c.args.row.place in
+    let found = c.requires.found in
+    let can = found.group_of.search in
+    let row = found.row in
+    let none = found.group_of.no_entry in
+    let i = is_in b h n g key found.group_of in
+    let s = c.in-Raced.ensures.steps in
+    (in_failed b h n g key place i can row k s.0 c.in-Raced.place c.in-Raced.expected c.in-Raced.found
+    s.1 s.3).section
+
 pub returns-in-Raced-clause-rows : goal.returns-in-Raced-clause-rows
 returns-in-Raced-clause-rows c =
     let b = c.args.board.now in
     let h = c.args.start.now.value in
     let n = c.args.hand.now in
     let k = c.update.new.hand in
-    let g : ℕ = c.args.group in
-    let key : ℕ = c.args.key in
-    let place : ℕ = c.args.place in
+    let g : ℕ = c.args.row.group in
+    let key : ℕ = c.args.row.key in
+    let place : ℕ = c.args.row.place in
     let found = c.requires.found in
     let can = found.group_of.search in
     let row = found.row in
@@ -155,9 +207,9 @@ returns-in-Raced-clause-tells c =
     let h = c.args.start.now.value in
     let n = c.args.hand.now in
     let k = c.update.new.hand in
-    let g : ℕ = c.args.group in
-    let key : ℕ = c.args.key in
-    let place : ℕ = c.args.place in
+    let g : ℕ = c.args.row.group in
+    let key : ℕ = c.args.row.key in
+    let place : ℕ = c.args.row.place in
     let found = c.requires.found in
     let can = found.group_of.search in
     let row = found.row in
@@ -172,15 +224,32 @@ returns-in-Raced-clause-tells c =
           c.in-Raced.found s.1 s.3 s.4 t.1)),
     )
 
+pub returns-in-Worn-clause-stays : goal.returns-in-Worn-clause-stays
+returns-in-Worn-clause-stays c =
+    let b = c.args.board.now in
+    let h = c.args.start.now.value in
+    let n = c.args.hand.now in
+    let k = c.update.new.hand in
+    let g : ℕ = c.args.row.group in
+    let key : ℕ = c.args.row.key in
+    let place : ℕ = c.args.row.place in
+    let found = c.requires.found in
+    let can = found.group_of.search in
+    let row = found.row in
+    let none = found.group_of.no_entry in
+    let i = is_in b h n g key found.group_of in
+    (in_found b h n g key place i can row k c.in-Worn.place c.in-Worn.word
+    c.in-Worn.ensures.steps.0).section
+
 pub returns-in-Worn-clause-rows : goal.returns-in-Worn-clause-rows
 returns-in-Worn-clause-rows c =
     let b = c.args.board.now in
     let h = c.args.start.now.value in
     let n = c.args.hand.now in
     let k = c.update.new.hand in
-    let g : ℕ = c.args.group in
-    let key : ℕ = c.args.key in
-    let place : ℕ = c.args.place in
+    let g : ℕ = c.args.row.group in
+    let key : ℕ = c.args.row.key in
+    let place : ℕ = c.args.row.place in
     let found = c.requires.found in
     let can = found.group_of.search in
     let row = found.row in
@@ -195,9 +264,9 @@ returns-in-Worn-clause-tells c =
     let h = c.args.start.now.value in
     let n = c.args.hand.now in
     let k = c.update.new.hand in
-    let g : ℕ = c.args.group in
-    let key : ℕ = c.args.key in
-    let place : ℕ = c.args.place in
+    let g : ℕ = c.args.row.group in
+    let key : ℕ = c.args.row.key in
+    let place : ℕ = c.args.row.place in
     let found = c.requires.found in
     let can = found.group_of.search in
     let row = found.row in

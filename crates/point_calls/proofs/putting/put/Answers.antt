@@ -1,6 +1,7 @@
 use Rattle.std.proofs.Common.{ℕ, ◌≤◌, sym, ◌∙◌, subst, arith}
 use Rattle.index_machine.specs.Openings.{greatest_key}
 use Rattle.index_rule.specs.declared.hand.Hand.{Hand}
+use Rattle.point_calls.specs.declared.found.Gap.{Gap}
 use Rattle.point_calls.specs.Putting.{HasFoundGap, HasFoundRow}
 use Rattle.point_calls.proofs.Knowing.{in_walk}
 use Rattle.point_calls.proofs.Missing.{group_opened, in_comes}
@@ -22,7 +23,8 @@ overwrite-requires-clause-found c =
     let i = in_walk b g h l w.0 n w.1 w.2 il in
     let at = found_group b h l n g key c.requires.call.of (group_opened b h l g key comes il.built most) i
     c.find.ensures.search (c.find.ensures.log ∙ comes.no_entry) in
-    subst (λ (z : Hand). HasFoundRow b z n g key c.in-Row.place) (sym c.of-start.ensures)
+    subst (λ (z : Hand). HasFoundRow b z n (record { group = g; place = c.in-Row.place; key = key }))
+    (sym c.of-start.ensures)
     (record { group_of = at; row = c.in-Row.ensures.finds })
 
 pub link_new-requires-clause-found : goal.link_new-requires-clause-found
@@ -40,8 +42,9 @@ link_new-requires-clause-found c =
     let i = in_walk b g h l w.0 n w.1 w.2 il in
     let at = found_group b h l n g key c.requires.call.of (group_opened b h l g key comes il.built most) i
     c.find.ensures.search (c.find.ensures.log ∙ comes.no_entry) in
-    subst (λ (z : Hand). HasFoundGap b z n g key c.in-Gap.before c.in-Gap.next) (sym c.of-start.ensures)
-    (found_gap b h l n g key c.in-Gap.before c.in-Gap.next il at c.in-Gap.ensures.finds)
+    let gap : Gap = record { group = g; before = c.in-Gap.before; next = c.in-Gap.next; key = key } in
+    subst (λ (z : Hand). HasFoundGap b z n gap) (sym c.of-start.ensures)
+    (found_gap b h l n gap il at c.in-Gap.ensures.finds)
 
 pub link_new-requires-clause-spare : goal.link_new-requires-clause-spare
 link_new-requires-clause-spare c =
@@ -60,5 +63,5 @@ link_new-requires-clause-spare c =
     c.find.ensures.search (c.find.ensures.log ∙ comes.no_entry) in
     i.rows c.args.spare.now c.requires.spare
 
-pub returns-in-Row-clause-full : goal.returns-in-Row-clause-full
-returns-in-Row-clause-full c = λ full. absurd (c.overwrite.ensures.not_full full)
+pub returns-clause-full : goal.returns-clause-full
+returns-clause-full c = λ full. absurd (c.overwrite.ensures.not_full full)

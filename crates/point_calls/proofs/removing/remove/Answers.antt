@@ -43,6 +43,25 @@ kill-requires c =
     ready_row c.args.board.now c.locate-group.result c.args.key c.in-Row.place c.find.new.hand
     c.find.ensures.search c.in-Row.ensures.finds
 
+pub returns-in-Done-clause-stays : goal.returns-in-Done-clause-stays
+returns-in-Done-clause-stays c =
+    let b = c.args.board.now in
+    let h = c.args.hand.now in
+    let l = c.locate-group.new.hand in
+    let n = c.find.new.hand in
+    let k = c.kill.new.hand in
+    let g : ℕ = c.locate-group.result in
+    let key : ℕ = c.args.key in
+    let comes = c.locate-group.ensures.comes in
+    let il = in_comes b h l g c.requires.call.of comes in
+    let w = c.find.ensures.steps in
+    let i = in_walk b g h l w.0 n w.1 w.2 il in
+    let can = c.find.ensures.search in
+    let row = c.in-Row.ensures.finds in
+    let none = c.find.ensures.log ∙ comes.no_entry in
+    (in_done b h n g key c.in-Row.place i can row k (remove_at b n c.in-Row.place) c.in-Done.old
+    c.in-Done.ensures.steps).section
+
 pub returns-in-Done-clause-rows : goal.returns-in-Done-clause-rows
 returns-in-Done-clause-rows c =
     let b = c.args.board.now in
@@ -112,6 +131,25 @@ returns-in-Gone-clause-tells c =
     subst (λ (z : Tried (Option ℕ)). RemoveTells b c.args.key c.args.hand.now z k) (sym e.done)
     (subst (λ (z : Hand). LooksUp b c.args.key z None k) c.of-start.ensures e.looks)
 
+pub returns-in-Locked-clause-stays : goal.returns-in-Locked-clause-stays
+returns-in-Locked-clause-stays c =
+    let b = c.args.board.now in
+    let h = c.args.hand.now in
+    let l = c.locate-group.new.hand in
+    let n = c.find.new.hand in
+    let k = c.kill.new.hand in
+    let g : ℕ = c.locate-group.result in
+    let key : ℕ = c.args.key in
+    let comes = c.locate-group.ensures.comes in
+    let il = in_comes b h l g c.requires.call.of comes in
+    let w = c.find.ensures.steps in
+    let i = in_walk b g h l w.0 n w.1 w.2 il in
+    let can = c.find.ensures.search in
+    let row = c.in-Row.ensures.finds in
+    let none = c.find.ensures.log ∙ comes.no_entry in
+    (in_found b h n g key c.in-Row.place i can row k c.in-Locked.place c.in-Locked.word
+    c.in-Locked.ensures.steps.0).section
+
 pub returns-in-Locked-clause-rows : goal.returns-in-Locked-clause-rows
 returns-in-Locked-clause-rows c =
     let b = c.args.board.now in
@@ -175,6 +213,26 @@ state_word-requires c =
     c.in-Raced.found s.1 s.3)
     (of_row b n k g key c.in-Row.place c.in-Raced.place row.0 c.in-Raced.ensures.tells.1)
 
+pub returns-in-Raced-clause-stays : goal.returns-in-Raced-clause-stays
+returns-in-Raced-clause-stays c =
+    let b = c.args.board.now in
+    let h = c.args.hand.now in
+    let l = c.locate-group.new.hand in
+    let n = c.find.new.hand in
+    let k = c.kill.new.hand in
+    let g : ℕ = c.locate-group.result in
+    let key : ℕ = c.args.key in
+    let comes = c.locate-group.ensures.comes in
+    let il = in_comes b h l g c.requires.call.of comes in
+    let w = c.find.ensures.steps in
+    let i = in_walk b g h l w.0 n w.1 w.2 il in
+    let can = c.find.ensures.search in
+    let row = c.in-Row.ensures.finds in
+    let none = c.find.ensures.log ∙ comes.no_entry in
+    let s = c.in-Raced.ensures.steps in
+    (in_failed b h n g key c.in-Row.place i can row k s.0 c.in-Raced.place c.in-Raced.expected
+    c.in-Raced.found s.1 s.3).section
+
 pub returns-in-Raced-clause-rows : goal.returns-in-Raced-clause-rows
 returns-in-Raced-clause-rows c =
     let b = c.args.board.now in
@@ -219,6 +277,25 @@ returns-in-Raced-clause-tells c =
           (loses_lock b h n g key c.in-Row.place i can row k s.0 c.in-Raced.place
           c.in-Raced.expected c.in-Raced.found s.1 s.3 s.4 t.1),
     )
+
+pub returns-clause-stays : goal.returns-clause-stays
+returns-clause-stays c =
+    let b = c.args.board.now in
+    let h = c.args.hand.now in
+    let l = c.locate-group.new.hand in
+    let n = c.find.new.hand in
+    let k = c.kill.new.hand in
+    let g : ℕ = c.locate-group.result in
+    let key : ℕ = c.args.key in
+    let comes = c.locate-group.ensures.comes in
+    let il = in_comes b h l g c.requires.call.of comes in
+    let w = c.find.ensures.steps in
+    let i = in_walk b g h l w.0 n w.1 w.2 il in
+    let can = c.find.ensures.search in
+    let row = c.in-Row.ensures.finds in
+    let none = c.find.ensures.log ∙ comes.no_entry in
+    (in_found b h n g key c.in-Row.place i can row k c.in-Worn.place c.in-Worn.word
+    c.in-Worn.ensures.steps.0).section
 
 pub returns-clause-rows : goal.returns-clause-rows
 returns-clause-rows c =

@@ -1,7 +1,12 @@
-use Rattle.std.proofs.Common.{◌≢◌, ℕ, [], ◌∷◌, refl, sym, subst}
+use Rattle.std.proofs.Common.{◌≡◌, ◌≢◌, ℕ, [], ◌∷◌, refl, sym, ap, ◌∙◌, subst}
+use Rattle.word_layout.specs.Words.{FreeHead}
 use Rattle.index_machine.specs.declared.events.Action.TheVariants.{LoadFree, LoadFreeLink, PopFree}
-use Rattle.index_rule.specs.Hands.{Makes, MakesAll}
-use Rattle.index_rule.proofs.Stepping.{still_holds_none, still_may_leave}
+use Rattle.index_machine.specs.Execution.{Execution}
+use Rattle.index_machine.specs.Words.{word}
+use Rattle.index_rule.specs.Hands.{Makes, MakesAll, known, opening_of}
+use Rattle.index_rule.proofs.Stepping.{known_is, still_holds_none, still_may_leave, still_reading}
+use Rattle.index_rule.proofs.Stepping.{valid_after, valid_known}
+use Rattle.row_arena.proofs.UsedRows.{no_free_row}
 use Rattle.row_arena.proofs.taking.take.Goals as goal
 
 pub returns-then-head-eq0-clause-steps : goal.returns-then-head-eq0-clause-steps
@@ -16,6 +21,23 @@ pub returns-then-head-eq0-clause-holds : goal.returns-then-head-eq0-clause-holds
 returns-then-head-eq0-clause-holds c =
     still_holds_none c.args.board.now c.args.hand.now c.load_free-head.new.hand _ c.requires.hand
     c.load_free-head.ensures.step tt c.requires.none
+
+pub returns-then-head-eq0-clause-used_up : goal.returns-then-head-eq0-clause-used_up
+returns-then-head-eq0-clause-used_up c empty =
+    let b = c.args.board.now in
+    let o = opening_of b in
+    let h = c.args.hand.now in
+    let k = c.load_free-head.new.hand in
+    let head : ℕ = c.load_free-head.result in
+    let of = c.requires.hand in
+    let loads : Makes b h (LoadFree head) k = c.load_free-head.ensures.step in
+    let word_is : word o (known k) FreeHead ≡ 0 =
+    ap (λ (t : Execution). word o t FreeHead) (known_is b h k (LoadFree head) of loads)
+    ∙ ((valid_after b h k (LoadFree head) of loads).0.1 ∙ c.if-head-eq0.true)
+    in
+    no_free_row o (known k) k.number (valid_known b h k (LoadFree head) of loads)
+    (still_reading b h k (LoadFree head) of loads (λ _. refl) c.requires.reading).caller word_is
+    (still_holds_none b h k (LoadFree head) of loads tt c.requires.none)
 
 pub swap_free_pop-requires-clause-none : goal.swap_free_pop-requires-clause-none
 swap_free_pop-requires-clause-none c =

@@ -1,0 +1,19 @@
+//! What a walk through the buffer of a group found of a key.
+
+/// The row of a key.
+#[derive(Clone, Copy)]
+pub(crate) struct FoundRow {
+    pub(crate) group: u32,
+    pub(crate) place: u32,
+    pub(crate) key: u64,
+}
+
+/// Where a key without a row belongs: behind the row at `before`, or the head where this is 0, and
+/// ahead of the row at `next`, or of none where this is 0.
+#[derive(Clone, Copy)]
+pub(crate) struct Gap {
+    pub(crate) group: u32,
+    pub(crate) before: u32,
+    pub(crate) next: u32,
+    pub(crate) key: u64,
+}

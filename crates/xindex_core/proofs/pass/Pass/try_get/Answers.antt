@@ -1,0 +1,47 @@
+-- What is known inside of the read section is told from outside of it.
+use Rattle.std.proofs.Common.{Option, ℕ, subst}
+use Rattle.index_rule.specs.declared.tried.Tried.{Tried}
+use Rattle.point_calls.specs.Getting.{GetTells}
+use Rattle.xindex_core.proofs.Sections.{later_is}
+use Rattle.xindex_core.proofs.Trying.{get_since, get_tells, spare_behind, spare_inside}
+use Rattle.xindex_core.proofs.pass.Pass.try_get.Goals as goal
+
+pub returns-clause-pass : goal.returns-clause-pass
+returns-clause-pass c =
+    let b = c.args.index.now.board in
+    record {
+      of = c.leave.ensures.step.of;
+      rests = c.leave.ensures.outside;
+      spare = spare_behind b c.get-answer.new.hand c.leave.new.hand _
+          c.get-answer.ensures.call.of c.leave.ensures.step _
+          (c.get-answer.ensures.rows _
+          (spare_inside b c.args.self.now.hand c.enter.new.hand _ c.requires.of
+          c.enter.ensures.step _ c.requires.spare));
+    }
+
+pub returns-clause-tries : goal.returns-clause-tries
+returns-clause-tries c =
+    let b = c.args.index.now.board in
+    let tells = c.get-answer.ensures.tells in
+    record {
+      later = later_is b c.args.self.now.hand c.enter.new.hand c.get-answer.new.hand c.leave.new.hand _ _
+          c.requires.of c.enter.ensures.step c.get-answer.ensures.call.of c.get-answer.ensures.number
+          c.leave.ensures.step
+          (get_since b c.args.key c.enter.new.hand c.get-answer.result c.get-answer.new.hand
+          tells);
+      ends = get_tells b c.args.self.now.hand c.enter.new.hand c.get-answer.new.hand c.leave.new.hand _ _
+          c.requires.of c.enter.ensures.step c.get-answer.ensures.call.of c.get-answer.ensures.number
+          c.leave.ensures.step
+          c.args.key c.get-answer.result tells;
+      steps = record {
+        inside = c.enter.new.hand;
+        done = c.get-answer.new.hand;
+        enters = c.enter.ensures.step;
+        stays = c.get-answer.ensures.stays;
+        does = tells;
+        leaves = c.leave.ensures.step;
+      };
+      full = λ is. absurd (subst
+          (λ (z : Tried (Option ℕ)). GetTells b c.args.key c.enter.new.hand z c.get-answer.new.hand)
+          is tells);
+    }

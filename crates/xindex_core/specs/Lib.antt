@@ -1,0 +1,11 @@
+pub mod Callers
+pub mod Answering
+pub mod Passes
+pub mod Opened
+pub mod Tries
+pub mod Notes
+pub mod Naming
+pub mod NoName
+pub mod Waiting
+pub mod Fitting
+pub mod Alone

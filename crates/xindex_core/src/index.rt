@@ -1,0 +1,48 @@
+//! What an opened index is, and why there is none.
+ghost use Rattle.std.specs.Prelude.{◌≡◌, []};
+ghost use Rattle.index_rule.specs.Hands.{opening_of};
+ghost use Rattle.index_machine.specs.Openings.{opening_map};
+ghost use Rattle.std.proofs.Props.{props};
+
+use crate::keeper::Keeper;
+use crate::pass::Pass;
+use index_rule::Board;
+use std::alloc::AllocError;
+
+/// An ordered index from u64 keys to u64 values, which many threads share by reference.
+///
+/// At run time it is one table of words.
+#[derive(Drop)]
+pub struct Index {
+    pub(crate) board: Board,
+    ghost empty: { opening_map (opening_of board) ≡ [] } by { Prim.hlevel props },
+}
+
+/// An index as it was opened, and all that steps on it.
+#[derive(Drop)]
+pub struct Opened {
+    pub index: Index,
+    /// One for each caller, by rising numbers from 0.
+    pub passes: Vec<Pass>,
+    pub keeper: Keeper,
+}
+
+/// Why no index was opened.
+#[derive(Clone, Copy, Debug, PartialEq, Eq)]
+pub enum OpenError {
+    /// The limits break this rule, and keep those before it.
+    BadLimit { number: u32 },
+    /// There was not enough memory.
+    Memory,
+}
+
+impl From<AllocError> for OpenError {
+    ghost use Rattle.std.specs.Prelude.{◌≡◌};
+    ghost use Rattle.xindex_core.specs.declared.index.OpenError.TheVariants.{Memory};
+
+    ghost from_gives = { λ _ cause. cause ≡ Memory };
+
+    fn from(_error: AllocError) -> OpenError {
+        OpenError::Memory
+    }
+}

@@ -1,0 +1,22 @@
+//! What holds of all callers of an index.
+//!
+//! A function here does nothing: it has a law for its contract, and so the check proves the law.
+ghost use Rattle.xindex_core.specs.Alone.{CallersAloneTellTheMap, CallsAloneHaveAnswers};
+ghost use Rattle.xindex_core.specs.Naming.{NamesSettleTheIndex};
+
+/// Where caller 0 alone changes an index that was opened empty, the log of its calls tells the map, and
+/// each of its answers is true of it.
+pub fn callers_alone_tell_the_map()
+    ensures { CallersAloneTellTheMap }
+{}
+
+/// Whoever has a pass or the keeper of an index has one of the index with its name: so it may be wrapped
+/// in a `NamedPass` or a `NamedKeeper`.
+pub fn names_settle_the_index()
+    ensures { NamesSettleTheIndex }
+{}
+
+/// Such a caller has an answer to each call of one key.
+pub fn calls_alone_have_answers()
+    ensures { CallsAloneHaveAnswers }
+{}

@@ -1,0 +1,28 @@
+//! The concurrent index as its users hold it: an index that all threads share, a pass for each caller, and
+//! the keeper.
+//!
+//! No call of a pass takes memory, waits or takes a mutex: each is tried once and says what it came to. A
+//! `Waiter` tries until a call is answered.
+#![tactic(auto)]
+
+mod calling;
+mod index;
+mod keeper;
+mod laws;
+mod named;
+mod naming;
+mod opening;
+mod pass;
+mod telling;
+#[cfg(test)]
+mod tests;
+mod waiter;
+
+pub use index::{Index, OpenError, Opened};
+pub use index_rule::{Note, Tried, Why};
+pub use keeper::Keeper;
+pub use laws::{callers_alone_tell_the_map, calls_alone_have_answers, names_settle_the_index};
+pub use named::{NamedKeeper, NamedPass};
+pub use naming::Name;
+pub use pass::Pass;
+pub use waiter::Waiter;
