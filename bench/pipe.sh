@@ -1,7 +1,7 @@
 #!/usr/bin/env bash
 # Times ./xindex pipe on request lines of a few keys, beside cat of the same file.  bench/pipe.sh [LINES] [KEYS]
 set -eu
-lines=${1:-1000000} keys=${2:-1000}
+lines=${1:-1000000} keys=${2:-100}
 top=$(dirname "$(readlink -f "$0")")/..
 input=$(mktemp)
 output=$(mktemp)

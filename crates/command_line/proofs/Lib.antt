@@ -1,3 +1,6 @@
+pub mod CommandLaws
+pub mod FormTexts
 pub mod FormLaws
 pub mod GrammarLaws
 pub mod ReadingLaws
+pub mod SaturationLaws

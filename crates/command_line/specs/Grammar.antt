@@ -12,9 +12,23 @@ mode_name = codes "mode"
 abbrev pub bytes_name : Text
 bytes_name = codes "bytes"
 
+-- the option of each limit by its name, with its default
+abbrev pub limit_options : List (Text × Text)
+limit_options =
+    (codes "callers", codes "4")
+    ∷ (codes "records", codes "65536")
+    ∷ (codes "groups", codes "256")
+    ∷ (codes "group-size", codes "256")
+    ∷ (codes "slots", codes "256")
+    ∷ (codes "due", codes "64")
+    ∷ (codes "assist", codes "64")
+    ∷ (codes "chain", codes "16")
+    ∷ (codes "first-version", codes "0")
+    ∷ []
+
 -- each option by its name, with its default
 abbrev pub options : List (Text × Text)
-options = (bytes_name, codes "1099511627776") ∷ []
+options = (bytes_name, codes "1099511627776") ∷ limit_options
 
 -- the two texts of a row
 abbrev pub row_of : Bor Text × Bor Text → Text × Text

@@ -6,6 +6,7 @@ use clap::error::ErrorKind;
 use std::alloc::AllocError;
 use std::error::Error;
 use std::fmt;
+use word_layout::Limits;
 
 /// The most bytes of input that `--bytes` can let through: 1 TiB. It is the default too.
 pub const MOST_BYTES: u64 = 1099511627776;
@@ -23,6 +24,9 @@ pub struct Command {
     pub mode: Mode,
     /// How many bytes of input may be read: 1 to `MOST_BYTES`.
     pub bytes: u64,
+    /// The limits of the index, which may break its rules. A number too great for its field is
+    /// the field's greatest, which breaks the same rule.
+    pub limits: Limits,
 }
 
 /// Why there is no command.

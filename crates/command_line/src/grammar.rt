@@ -10,10 +10,19 @@ use std::alloc::{AllocError, Global};
 
 pub const MODE: &str = "mode";
 
-pub const BYTES: &str = "bytes";
-
 /// Each option by its name, with its default.
-static OPTIONS: [(&str, &str); 1] = [(BYTES, "1099511627776")];
+static OPTIONS: [(&str, &str); 10] = [
+    ("bytes", "1099511627776"),
+    ("callers", "4"),
+    ("records", "65536"),
+    ("groups", "256"),
+    ("group-size", "256"),
+    ("slots", "256"),
+    ("due", "64"),
+    ("assist", "64"),
+    ("chain", "16"),
+    ("first-version", "0"),
+];
 
 /// The command that knows the mode and each option.
 pub fn grammar<'a>(alloc: Global) -> Result<clap::Command<'a>, AllocError>

@@ -1,6 +1,7 @@
 //! What follows from the meaning of the words, for callers to cite.
 //!
 //! Each function does nothing: its clause is the law.
+ghost use Rattle.command_line.specs.Asked.{SaturationKeepsRules};
 ghost use Rattle.command_line.specs.Command.{WordsDetermineTheCommand};
 ghost use Rattle.command_line.specs.Forms.{EachIsGivenOnce, PlainFormsAreCommands};
 
@@ -9,7 +10,8 @@ pub fn words_determine_the_command()
     ensures { WordsDetermineTheCommand }
 {}
 
-/// The mode alone is a command, and so is the mode with a number in the bounds, before or after it.
+/// The mode alone is a command, and so is the mode with an option and a number in its bounds before
+/// or after it.
 pub fn plain_forms_are_commands()
     ensures { PlainFormsAreCommands }
 {}
@@ -17,4 +19,9 @@ pub fn plain_forms_are_commands()
 /// Words without a mode, with two modes or with an option given twice are no command.
 pub fn each_is_given_once()
     ensures { EachIsGivenOnce }
+{}
+
+/// The limits of a command break the same rule first as the numbers that the words ask for.
+pub fn saturation_keeps_rules()
+    ensures { SaturationKeepsRules }
 {}

@@ -8,9 +8,13 @@
 mod answers;
 mod grammar;
 mod laws;
+mod limits;
 mod reading;
 mod values;
 
 pub use answers::{Command, CommandError, MOST_BYTES, Mode};
-pub use laws::{each_is_given_once, plain_forms_are_commands, words_determine_the_command};
+pub use laws::{
+    each_is_given_once, plain_forms_are_commands, saturation_keeps_rules,
+    words_determine_the_command,
+};
 pub use reading::read_command;

@@ -4,7 +4,8 @@ ghost use Rattle.clap.specs.Words.{found_of, rows_of};
 ghost use Rattle.command_line.specs.Command.{AsksFor, IsCommand, texts_of};
 
 use crate::answers::{Command, CommandError, MOST_BYTES, Mode};
-use crate::grammar::{BYTES, MODE, grammar};
+use crate::grammar::{MODE, grammar};
+use crate::limits::limits_in;
 use crate::values::number_from;
 use clap::ArgMatches;
 use std::alloc::Global;
@@ -29,14 +30,20 @@ fn command_in(matches: &ArgMatches) -> Option<Command>
         → ¬ AsksFor (rows_of (found_of matches.now)) command) }
 {
     let mode = Mode::named(matches.get_str(MODE)?)?;
-    let bytes = number_from(1, MOST_BYTES, matches.get_str(BYTES)?)?;
-    Some(Command { mode, bytes })
+    let bytes = number_from(1, MOST_BYTES, matches.get_str("bytes")?)?;
+    let limits = limits_in(matches)?;
+    Some(Command {
+        mode,
+        bytes,
+        limits,
+    })
 }
 
 #[cfg(test)]
 mod tests {
     use super::*;
     use std::test::Fail;
+    use word_layout::Limits;
 
     // The words of the line are parted by one blank each.
     fn read_line(alloc: Global, line: &str) -> Result<Result<Command, CommandError>, Fail> {
@@ -66,6 +73,115 @@ mod tests {
             let asked = Ok(Command {
                 mode: Mode::Pipe,
                 bytes,
+                limits: Limits::standard(),
+            });
+            assert_eq!(rt; read_line(rt.alloc(), line)?, asked, "{line}");
+        }
+        Ok(())
+    }
+
+    #[test]
+    fn each_option_of_a_limit_changes_its_own_field(rt: HostRuntime) -> Result<(), Fail> {
+        let standard = Limits::standard();
+        for (line, limits) in [
+            (
+                "pipe --callers 7",
+                Limits {
+                    callers: 7,
+                    ..standard
+                },
+            ),
+            (
+                "pipe --records=3",
+                Limits {
+                    records: 3,
+                    ..standard
+                },
+            ),
+            (
+                "--groups 007 pipe",
+                Limits {
+                    groups: 7,
+                    ..standard
+                },
+            ),
+            (
+                "--group-size=8 pipe",
+                Limits {
+                    group_size: 8,
+                    ..standard
+                },
+            ),
+            (
+                "pipe --slots 0",
+                Limits {
+                    slots: 0,
+                    ..standard
+                },
+            ),
+            (
+                "pipe --due 257",
+                Limits {
+                    due: 257,
+                    ..standard
+                },
+            ),
+            (
+                "pipe --assist 1",
+                Limits {
+                    help: 1,
+                    ..standard
+                },
+            ),
+            (
+                "pipe --chain 2",
+                Limits {
+                    chain: 2,
+                    ..standard
+                },
+            ),
+            (
+                "pipe --first-version 18446744073709551615",
+                Limits {
+                    first_version: u64::MAX,
+                    ..standard
+                },
+            ),
+            (
+                "pipe --callers 4294967295",
+                Limits {
+                    callers: u32::MAX,
+                    ..standard
+                },
+            ),
+            (
+                "pipe --due 4294967296",
+                Limits {
+                    due: u32::MAX,
+                    ..standard
+                },
+            ),
+            (
+                "pipe --chain 18446744073709551615",
+                Limits {
+                    chain: u32::MAX,
+                    ..standard
+                },
+            ),
+            (
+                "--due 2 pipe --records 100 --assist=9",
+                Limits {
+                    due: 2,
+                    records: 100,
+                    help: 9,
+                    ..standard
+                },
+            ),
+        ] {
+            let asked = Ok(Command {
+                mode: Mode::Pipe,
+                bytes: MOST_BYTES,
+                limits,
             });
             assert_eq!(rt; read_line(rt.alloc(), line)?, asked, "{line}");
         }
@@ -98,7 +214,17 @@ mod tests {
             "pipe --bytes=8 --bytes 9",
             "pipe -- --bytes 8",
             "pipe --byte 8",
-            "pipe --records 3",
+            "pipe --records x",
+            "pipe --records",
+            "pipe --records=",
+            "pipe --records -1",
+            "pipe --records 3 --records 3",
+            "pipe --callers 18446744073709551616",
+            "pipe --first-version 18446744073709551616",
+            "pipe --group-size 8x",
+            "pipe --group_size 8",
+            "pipe --help 64",
+            "--due 3",
             "--help",
             "-h",
             "help",

@@ -1,7 +1,7 @@
 //! Values of options, read from their texts.
 ghost use Rattle.std.specs.Prelude.{◌≤◌};
 ghost use Rattle.std.specs.Option.{SomeIff};
-ghost use Rattle.command_line.specs.Command.{IsNumberFrom};
+ghost use Rattle.command_line.specs.Asked.{IsNumberFrom};
 ghost use Rattle.wire_commands.specs.Numbers.{value_of};
 
 use wire_commands::{is_number, value_within};

@@ -1,3 +1,4 @@
 pub mod Known
 pub mod Sessions
 pub mod OneText
+pub mod Carrying

@@ -20,5 +20,5 @@ pub use laws::{
 };
 pub use numbers::{is_number, value_within};
 pub use reading::read_line;
-pub use reply::Reply;
+pub use reply::{Reply, write_number};
 pub use request::{Reason, Request, Value};

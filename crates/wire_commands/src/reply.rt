@@ -71,10 +71,12 @@ fn write_text(text: &[u8], into: &mut [u8; 80]) -> usize
     append(text, into, 0)
 }
 
-/// Writes a word, a number and a newline at the front, and tells their length.
-fn write_number(word: &[u8], number: u64, into: &mut [u8; 80]) -> usize
+/// Writes a word, a number in decimal digits and a newline at the front, and tells their length in
+/// bytes. What lies past them stays as it was.
+pub fn write_number(word: &[u8], number: u64, into: &mut [u8; 80]) -> usize
     requires { length word.now ≤ 39 }
-    ensures { Writes into.old into.new (word.now ++ decimal number ++ codes "\n") result }
+    ensures line { Writes into.old into.new (word.now ++ decimal number ++ codes "\n") result }
+    ensures within { result ≤ 80 }
 {
     // A formatted number has at most 40 bytes, which with the word and the newline are 80.
     let mut digits = itoa::Buffer::new();
@@ -98,6 +100,15 @@ fn append(text: &[u8], into: &mut [u8; 80], start: usize) -> usize
 #[cfg(test)]
 mod tests {
     use super::*;
+
+    #[test]
+    fn a_number_follows_its_word(rt: HostRuntime) {
+        let mut into = [b'-'; 80];
+        let length = write_number(b"bad limit ", 10, &mut into);
+        assert!(rt; length < into.len());
+        assert_eq!(rt; &into[..length], b"bad limit 10\n".as_slice());
+        assert_eq!(rt; into[length], b'-');
+    }
 
     #[test]
     fn a_reply_is_one_line_of_text(rt: HostRuntime) {

@@ -1,15 +1,20 @@
 -- What the program may have done when it ends.
-use Rattle.std.specs.Prelude.{◌≡◌, ℕ, List, [], Option, codes}
+use Rattle.std.specs.Prelude.{◌≡◌, ◌++◌, ℕ, List, [], MatchOption, None, Option, codes, decimal}
 use Rattle.std.specs.Io.KnownBytes.{append_known}
-use Rattle.map_model.specs.PlainMap.{BoundedMap, Answers}
 use Rattle.line_session.specs.declared.ends.Ended.{Ended}
 use Rattle.line_session.specs.declared.ends.Ended.TheVariants as ended
 use Rattle.line_session.specs.Ends.{TakesFront}
 use Rattle.line_session.specs.Served.{Serves}
 use Rattle.command_line.specs.declared.answers.Command.{Command}
-use Rattle.command_line.specs.Command.{IsCommand}
+use Rattle.command_line.specs.Command.{IsCommand, asked_limits}
+use Rattle.word_layout.specs.declared.limits.Limits.{Limits}
+use Rattle.word_layout.specs.Limits.{IsFirstBroken}
+use Rattle.xindex_core.specs.declared.index.Opened.{Opened}
+use Rattle.xindex_core.specs.Alone.{AnswersAlone}
+use Rattle.xindex.specs.declared.outcome.Outcome.{Outcome}
+use Rattle.xindex.specs.Served.{IsServed, first_log}
 use Rattle.xindex.specs.declared.status.Status.{Status}
-use Rattle.xindex.specs.declared.status.Status.TheVariants.{Done, Usage, ReadFault, WriteFault, Memory, Limit}
+use Rattle.xindex.specs.declared.status.Status.TheVariants.{Done, Usage, ReadFault, WriteFault, Memory, BadLimits, Limit}
 
 -- the number with which the process ends
 abbrev pub number_of : Status → ℕ
@@ -18,22 +23,32 @@ number_of Usage = 2
 number_of ReadFault = 3
 number_of WriteFault = 4
 number_of Memory = 6
+number_of BadLimits = 7
 number_of Limit = 9
 
 -- the words ask for nothing
 abbrev pub IsNoCommand : List (List ℕ) → Type 0
 IsNoCommand words = (command : Command) → ¬ (IsCommand words command)
 
--- the line that is written for words that ask for nothing
-abbrev pub refusal_line : List ℕ
-refusal_line = codes "bad usage\n"
+-- the words ask for limits that break a rule, and this is the first one
+pub record AsksBadLimits (words : List (List ℕ)) (number : ℕ) : Type 0 where
+  pub command : Command
+  pub asked : IsCommand words command
+  pub first : IsFirstBroken (asked_limits words) number
 
--- what is written for words that ask for nothing: the line, or a front of it where the sink failed
-abbrev pub Refuses : Option (List ℕ) → Option (List ℕ) → Status → Type 0
-Refuses old new Usage = new ≡ append_known old refusal_line
-Refuses old new WriteFault = TakesFront refusal_line old new
-Refuses old new Memory = new ≡ old
-Refuses old new status = ⊥
+-- the line that is written for words that ask for nothing
+abbrev pub usage_line : List ℕ
+usage_line = codes "bad usage\n"
+
+-- the line that is written for limits that break this rule first
+abbrev pub limit_line : ℕ → List ℕ
+limit_line number = codes "bad limit " ++ decimal number ++ codes "\n"
+
+-- what is written for a refusal: its line, or a front of it where the sink failed
+abbrev pub Refuses : List ℕ → Status → Option (List ℕ) → Option (List ℕ) → Status → Type 0
+Refuses line refused old new WriteFault = TakesFront line old new
+Refuses line refused old new Memory = new ≡ old
+Refuses line refused old new status = (status ≡ refused) × (new ≡ append_known old line)
 
 -- how the end of a session is told
 abbrev pub status_of : Ended → Status
@@ -43,14 +58,23 @@ status_of ended.ReadFault = ReadFault
 status_of ended.WriteFault = WriteFault
 status_of ended.Limit = Limit
 
--- the map of a session at its beginning
-abbrev pub empty_map : BoundedMap
-empty_map = record { pairs = []; room = 65536 }
+-- a program that opened no index
+abbrev pub unopened : Status → Outcome
+unopened status = record { status = status; opened = None }
 
--- one session was served over an empty map, and this is the status of its end
-pub record Pipes (most : ℕ) (left_old left_new written_old written_new : Option (List ℕ))
-    (result : Status) : Type 0 where
+-- one session was served by pass 0 over the index, which was opened empty with these limits: its log
+-- tells it, and nobody else changed the index; this is the status of its end
+pub record Pipes (l : Limits) (most : ℕ) (left_old left_new written_old written_new : Option (List ℕ))
+    (status : Status) (opened : Opened) : Type 0 where
   pub ended : Ended
-  pub last : BoundedMap
-  pub status : result ≡ status_of ended
-  pub served : Serves Answers empty_map last left_old left_new written_old written_new most ended
+  pub status_is : status ≡ status_of ended
+  pub index : IsServed l opened
+  pub served : Serves (AnswersAlone l) [] (first_log opened) left_old left_new written_old
+      written_new most ended
+
+-- the program served a session, or there was no memory for an index
+abbrev pub PipesOrLacksMemory : Limits → ℕ → Option (List ℕ) → Option (List ℕ) → Option (List ℕ)
+    → Option (List ℕ) → Outcome → Type 0
+PipesOrLacksMemory l most left_old left_new written_old written_new outcome =
+    MatchOption outcome.opened (outcome.status ≡ Memory)
+    (Pipes l most left_old left_new written_old written_new outcome.status)

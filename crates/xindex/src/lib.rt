@@ -4,10 +4,15 @@
 //! streams under it, which tell no bytes.
 #![tactic(auto)]
 
+mod laws;
+mod outcome;
 mod real;
+mod serving;
 mod status;
 mod top;
 
+pub use laws::{bytes_alone_have_one_text, sessions_alone_are_plain};
+pub use outcome::Outcome;
 pub use real::{StandardInput, StandardOutput};
 pub use status::Status;
 pub use top::xindex;

@@ -19,6 +19,9 @@ pub enum Status {
     /// There was no memory.
     Memory,
 
+    /// The limits that the words ask for break a rule.
+    BadLimits,
+
     /// As many bytes were taken as the byte limit allows.
     Limit,
 }
@@ -36,6 +39,7 @@ impl Status {
             Status::ReadFault => 3,
             Status::WriteFault => 4,
             Status::Memory => 6,
+            Status::BadLimits => 7,
             Status::Limit => 9,
         }
     }

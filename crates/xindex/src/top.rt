@@ -1,82 +1,144 @@
 //! The top call.
-ghost use Rattle.std.specs.Prelude.{◌≡◌, ◌≢◌, ◌≤◌, ◌⊎◌};
+ghost use Rattle.std.specs.Prelude.{◌≡◌, ◌≢◌, ◌≤◌, ℕ, IsSome, IsSomeAnd};
 ghost use Rattle.command_line.specs.declared.answers.Command.{Command};
-ghost use Rattle.command_line.specs.Command.{IsCommand, texts_of};
+ghost use Rattle.command_line.specs.Command.{IsCommand, asked_limits, texts_of};
 ghost use Rattle.line_session.specs.Ends.{Counts};
-ghost use Rattle.xindex.specs.Outcome.{IsNoCommand, Refuses, Pipes, status_of};
+ghost use Rattle.word_layout.specs.Limits.{IsFirstBroken, KeepsRules};
+ghost use Rattle.xindex_core.specs.Opened.{IsNewlyOpened};
+ghost use Rattle.xindex_core.specs.Passes.{limits_of_index};
+ghost use Rattle.xindex.specs.Outcome.{AsksBadLimits, IsNoCommand, Pipes, PipesOrLacksMemory};
+ghost use Rattle.xindex.specs.Outcome.{Refuses, limit_line, status_of, unopened, usage_line};
 
-use crate::Status;
-use command_line::{CommandError, Mode, read_command};
-use line_session::{Ended, Sink, Source, serve_one, write_all};
-use map_model::PlainMap;
+use crate::serving::serve_alone;
+use crate::{Outcome, Status};
+use command_line::{Command, CommandError, Mode, read_command};
+use line_session::{Ended, Sink, Source, write_all};
 use std::alloc::Global;
+use std::marker::Brand;
 use std::sync::Wait;
-
-/// How many keys the map of one session has room for.
-const ROOM: usize = 65536;
+use wire_commands::write_number;
+use xindex_core::{Index, OpenError, Opened};
 
 /// All that the program does. `words` are those of the command line after the program's name.
 ///
-/// A session is served over an empty map. Words that ask for nothing are answered by one line, and nothing is read.
-/// `Memory` may come for any words.
+/// A session is served over an empty index, by its pass 0, and the index is handed out. Words that ask
+/// for nothing are answered by one line, and so are limits that break a rule; then nothing is read or
+/// opened. `Memory` may come for any words.
 pub fn xindex<R: Wait + Copy, S: Source, K: Sink>(
     rt: &R,
     alloc: Global,
     words: &[&str],
     source: &mut S,
     sink: &mut K,
-) -> Status
-    // Words that ask for a session get one, of the bytes that were taken of the source.
+) -> Outcome
+    // Words that ask for a session, with limits that keep the rules, get one of the bytes taken.
     ensures session { (command : Command) → IsCommand (texts_of words.now) command
-        → (result ≡ Status.Memory) ⊎ Pipes command.bytes
+        → KeepsRules (asked_limits (texts_of words.now))
+        → PipesOrLacksMemory command.limits command.bytes
         (S.left source.old) (S.left source.new) (K.written sink.old) (K.written sink.new) result }
 
-    // Only words that ask for nothing are refused. They are told so, and nothing is read for them.
-    ensures usage { result ≡ Status.Usage → IsNoCommand (texts_of words.now) }
+    // An index is handed out only where the words ask for one.
+    ensures opened { IsSome result.opened → (command : Command)
+        × IsCommand (texts_of words.now) command × KeepsRules command.limits }
+
+    // Only words that ask for nothing are bad usage. They are told so, and nothing is read.
+    ensures usage { result.status ≡ Status.Usage → IsNoCommand (texts_of words.now) }
     ensures refusal { IsNoCommand (texts_of words.now)
-        → Refuses (K.written sink.old) (K.written sink.new) result }
+        → Refuses usage_line Status.Usage (K.written sink.old) (K.written sink.new) result.status }
     ensures unread { IsNoCommand (texts_of words.now) → S.left source.new ≡ S.left source.old }
+    ensures unopened { IsNoCommand (texts_of words.now) → result ≡ unopened result.status }
+
+    // Only limits that break a rule are bad. The first such rule is told, and nothing is read.
+    ensures limits { result.status ≡ Status.BadLimits
+        → (number : ℕ) × AsksBadLimits (texts_of words.now) number }
+    ensures limits_refusal { (number : ℕ) → AsksBadLimits (texts_of words.now) number
+        → Refuses (limit_line number) Status.BadLimits
+        (K.written sink.old) (K.written sink.new) result.status }
+    ensures limits_unread { (number : ℕ) → AsksBadLimits (texts_of words.now) number
+        → S.left source.new ≡ S.left source.old }
+    ensures limits_unopened { (number : ℕ) → AsksBadLimits (texts_of words.now) number
+        → result ≡ unopened result.status }
 
     // Want of memory comes before anything is read or written.
-    ensures memory_unread { result ≡ Status.Memory → S.left source.new ≡ S.left source.old }
-    ensures memory_unwritten { result ≡ Status.Memory → K.written sink.new ≡ K.written sink.old }
+    ensures memory_unread { result.status ≡ Status.Memory → S.left source.new ≡ S.left source.old }
+    ensures memory_unwritten { result.status ≡ Status.Memory → K.written sink.new ≡ K.written sink.old }
 
     // A fault is the status wherever an end has counted one, and nowhere else.
-    ensures read_faults { Counts (result ≡ Status.ReadFault)
+    ensures read_faults { Counts (result.status ≡ Status.ReadFault)
         (S.read_faults source.old) (S.read_faults source.new) }
-    ensures write_faults { Counts (result ≡ Status.WriteFault)
+    ensures write_faults { Counts (result.status ≡ Status.WriteFault)
         (K.write_faults sink.old) (K.write_faults sink.new) }
 {
     match read_command(alloc, words) {
-        Ok(command) => match command.mode {
-            Mode::Pipe => pipe(rt, alloc, source, sink, command.bytes),
-        },
-        Err(CommandError::Usage) => refuse(sink),
-        Err(CommandError::Memory) => Status::Memory,
+        Ok(command) => run(rt, alloc, command, source, sink),
+        Err(CommandError::Usage) => {
+            Outcome::unopened(refuse(sink, b"bad usage\n", Status::Usage))
+        }
+        Err(CommandError::Memory) => Outcome::unopened(Status::Memory),
     }
 }
 
-// Serves one session over an empty map.
-fn pipe<R: Wait + Copy, S: Source, K: Sink>(
+// Runs the command over a new index, if its limits keep the rules.
+fn run<R: Wait + Copy, S: Source, K: Sink>(
     rt: &R,
     alloc: Global,
+    command: Command,
+    source: &mut S,
+    sink: &mut K,
+) -> Outcome
+    requires { 1 ≤ command.bytes }
+    ensures session { KeepsRules command.limits → PipesOrLacksMemory command.limits command.bytes
+        (S.left source.old) (S.left source.new) (K.written sink.old) (K.written sink.new) result }
+    ensures opened { IsSome result.opened → KeepsRules command.limits }
+    ensures no_usage { result.status ≢ Status.Usage }
+    ensures limits { result.status ≡ Status.BadLimits
+        → (number : ℕ) × IsFirstBroken command.limits number }
+    ensures limits_refusal { (number : ℕ) → IsFirstBroken command.limits number
+        → Refuses (limit_line number) Status.BadLimits
+        (K.written sink.old) (K.written sink.new) result.status }
+    ensures limits_unread { (number : ℕ) → IsFirstBroken command.limits number
+        → S.left source.new ≡ S.left source.old }
+    ensures limits_unopened { (number : ℕ) → IsFirstBroken command.limits number
+        → result ≡ unopened result.status }
+    ensures memory_unread { result.status ≡ Status.Memory → S.left source.new ≡ S.left source.old }
+    ensures memory_unwritten { result.status ≡ Status.Memory
+        → K.written sink.new ≡ K.written sink.old }
+    ensures read_faults { Counts (result.status ≡ Status.ReadFault)
+        (S.read_faults source.old) (S.read_faults source.new) }
+    ensures write_faults { Counts (result.status ≡ Status.WriteFault)
+        (K.write_faults sink.old) (K.write_faults sink.new) }
+{
+    match Index::open(alloc, command.limits, &[]) {
+        Ok(opened) => match command.mode {
+            Mode::Pipe => pipe(rt, opened, source, sink, command.bytes),
+        },
+        Err(OpenError::BadLimit { number }) => Outcome::unopened(refuse_limits(sink, number)),
+        Err(OpenError::Memory) => Outcome::unopened(Status::Memory),
+    }
+}
+
+// Serves one session over the new index.
+fn pipe<R: Wait + Copy, S: Source, K: Sink>(
+    rt: &R,
+    opened: Opened,
     source: &mut S,
     sink: &mut K,
     most: u64,
-) -> Status
-    requires { 1 ≤ most }
-    ensures session { (result ≡ Status.Memory) ⊎ Pipes most
-        (S.left source.old) (S.left source.new) (K.written sink.old) (K.written sink.new) result }
-    ensures memory_unread { result ≡ Status.Memory → S.left source.new ≡ S.left source.old }
-    ensures memory_unwritten { result ≡ Status.Memory → K.written sink.new ≡ K.written sink.old }
-    ensures read_faults { Counts (result ≡ Status.ReadFault)
+) -> Outcome
+    requires most { 1 ≤ most }
+    requires new { IsNewlyOpened (limits_of_index opened.index) opened }
+    ensures session { IsSomeAnd result.opened (Pipes (limits_of_index opened.index) most
+        (S.left source.old) (S.left source.new)
+        (K.written sink.old) (K.written sink.new) result.status) }
+    ensures read_faults { Counts (result.status ≡ Status.ReadFault)
         (S.read_faults source.old) (S.read_faults source.new) }
-    ensures write_faults { Counts (result ≡ Status.WriteFault)
+    ensures write_faults { Counts (result.status ≡ Status.WriteFault)
         (K.write_faults sink.old) (K.write_faults sink.new) }
 {
-    match PlainMap::with_room(alloc, ROOM) {
-        Ok(mut map) => status_of(serve_one(rt, &mut map, source, sink, most)),
-        Err(_) => Status::Memory,
+    let (ended, opened) = serve_alone::<Brand, R, S, K>(rt, opened, source, sink, most);
+    Outcome {
+        status: status_of(ended),
+        opened: Some(opened),
     }
 }
 
@@ -92,15 +154,30 @@ fn status_of(ended: Ended) -> Status
     }
 }
 
-// Tells that the words ask for nothing. Where that fails, the fault is the status.
-fn refuse<K: Sink>(sink: &mut K) -> Status
-    ensures refusal { Refuses (K.written sink.old) (K.written sink.new) result }
+// Tells which rule the limits break first.
+fn refuse_limits<K: Sink>(sink: &mut K, number: u32) -> Status
+    ensures refusal { Refuses (limit_line number) Status.BadLimits
+        (K.written sink.old) (K.written sink.new) result }
     ensures no_memory { result ≢ Status.Memory }
     ensures write_faults { Counts (result ≡ Status.WriteFault)
         (K.write_faults sink.old) (K.write_faults sink.new) }
 {
-    match write_all(sink, b"bad usage\n") {
-        Ok(()) => Status::Usage,
+    let mut line = [0; 80];
+    let len = write_number(b"bad limit ", u64::from(number), &mut line);
+    refuse(sink, &line[..len], Status::BadLimits)
+}
+
+// Tells a refusal. Where that fails, the fault is the status.
+fn refuse<K: Sink>(sink: &mut K, line: &[u8], refused: Status) -> Status
+    requires no_fault { refused ≢ Status.WriteFault }
+    requires not_for_memory { refused ≢ Status.Memory }
+    ensures refusal { Refuses line.now refused (K.written sink.old) (K.written sink.new) result }
+    ensures no_memory { result ≢ Status.Memory }
+    ensures write_faults { Counts (result ≡ Status.WriteFault)
+        (K.write_faults sink.old) (K.write_faults sink.new) }
+{
+    match write_all(sink, line) {
+        Ok(()) => refused,
         Err(_) => Status::WriteFault,
     }
 }

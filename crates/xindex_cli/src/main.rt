@@ -13,12 +13,12 @@ fn main(rt: HostRuntime) -> ExitCode {
     let mut sink = StandardOutput::new(rt.stdout());
     let status = match words_of(&rt) {
         Ok(words) => match texts_of(rt.alloc(), &words) {
-            Ok(texts) => xindex(&rt, rt.alloc(), &texts, &mut source, &mut sink),
+            Ok(texts) => xindex(&rt, rt.alloc(), &texts, &mut source, &mut sink).status,
             Err(_) => Status::Memory,
         },
         Err(ErrorKind::OutOfMemory) => Status::Memory,
         // Words that are no text ask for nothing, as no words do.
-        Err(_) => xindex(&rt, rt.alloc(), &[], &mut source, &mut sink),
+        Err(_) => xindex(&rt, rt.alloc(), &[], &mut source, &mut sink).status,
     };
     ExitCode::from(status.number())
 }

@@ -18,7 +18,7 @@ fn assert_writes<R: Wait + Copy + std::process::Abort>(
     for step in [1, 4096] {
         let mut source = BytesSource::new(alloc, input, step, &[])?;
         let mut sink = BytesSink::new(alloc, 1000, &[])?;
-        let ended = xindex(rt, alloc, words, &mut source, &mut sink);
+        let ended = xindex(rt, alloc, words, &mut source, &mut sink).status;
         assert_eq!(rt; ended, status, "at steps of {step}");
         assert_eq!(rt; sink.bytes(), output, "at steps of {step}");
     }
@@ -91,6 +91,95 @@ fn words_that_ask_for_nothing_are_bad_usage(rt: HostRuntime) -> Result<(), Fail>
 }
 
 #[test]
+fn bad_limits_are_told_by_the_first_rule_that_they_break(rt: HostRuntime) -> Result<(), Fail> {
+    let table = [
+        (
+            ["pipe", "--callers=0"].as_slice(),
+            b"bad limit 1\n".as_slice(),
+        ),
+        (&["pipe", "--records", "1"], b"bad limit 2\n"),
+        (
+            &["pipe", "--callers", "65", "--records", "1"],
+            b"bad limit 1\n",
+        ),
+        (&["--groups=65537", "pipe"], b"bad limit 3\n"),
+        (&["pipe", "--group-size", "7"], b"bad limit 4\n"),
+        (&["pipe", "--slots", "4097"], b"bad limit 5\n"),
+        (&["pipe", "--due", "257"], b"bad limit 6\n"),
+        (&["pipe", "--assist", "0"], b"bad limit 7\n"),
+        (
+            &["pipe", "--chain", "18446744073709551615"],
+            b"bad limit 8\n",
+        ),
+        (
+            &["pipe", "--first-version", "1152921504606846976"],
+            b"bad limit 9\n",
+        ),
+        (
+            &["pipe", "--groups", "65536", "--group-size", "1024"],
+            b"bad limit 10\n",
+        ),
+        (
+            &["pipe", "--due", "4294967297", "--group-size", "4294967298"],
+            b"bad limit 4\n",
+        ),
+    ];
+    for (words, line) in table {
+        assert_writes(&rt, rt.alloc(), words, SESSION, line, Status::BadLimits)?;
+    }
+    Ok(())
+}
+
+#[test]
+fn limits_that_keep_the_rules_are_taken(rt: HostRuntime) -> Result<(), Fail> {
+    let words = [
+        "pipe",
+        "--callers",
+        "64",
+        "--due=256",
+        "--first-version",
+        "1152921504606846965",
+    ];
+    assert_writes(&rt, rt.alloc(), &words, SESSION, REPLIES, Status::Done)
+}
+
+#[test]
+fn new_keys_are_refused_when_no_row_is_free(rt: HostRuntime) -> Result<(), Fail> {
+    assert_writes(
+        &rt,
+        rt.alloc(),
+        &["pipe", "--callers", "1", "--records", "2"],
+        b"put 1 10\nput 2 20\nput 3 30\nget 1\nremove 2\nput 2 21\n",
+        b"new\nnew\nfull\nvalue 10\nold 20\nnew\n",
+        Status::Done,
+    )
+}
+
+#[test]
+fn a_record_of_the_last_version_is_worn(rt: HostRuntime) -> Result<(), Fail> {
+    assert_writes(
+        &rt,
+        rt.alloc(),
+        &["pipe", "--first-version=1152921504606846974"],
+        b"put 5 50\nput 5 51\nput 5 52\nremove 5\nget 5\n",
+        b"new\nold 50\nworn\nworn\nvalue 51\n",
+        Status::Done,
+    )
+}
+
+#[test]
+fn the_index_that_was_asked_is_handed_out(rt: HostRuntime) -> Result<(), Fail> {
+    for (words, many) in [(["pipe"].as_slice(), Some(4)), (&["pipe", "--due=0"], None)] {
+        let mut source = BytesSource::new(rt.alloc(), SESSION, 7, &[])?;
+        let mut sink = BytesSink::new(rt.alloc(), 1000, &[])?;
+        let outcome = xindex(&rt, rt.alloc(), words, &mut source, &mut sink);
+        let passes = outcome.opened.map(|opened| opened.passes.len());
+        assert_eq!(rt; passes, many);
+    }
+    Ok(())
+}
+
+#[test]
 fn a_limit_of_bytes_ends_the_session(rt: HostRuntime) -> Result<(), Fail> {
     let table = [
         ("8", b"none\n".as_slice(), Status::Limit),
@@ -112,20 +201,24 @@ fn a_fault_has_its_status_and_loses_no_reply_before_it(rt: HostRuntime) -> Resul
         ("pipe", 9, 1, 100, Status::WriteFault, b"new\n"),
         ("pipe", 9, 9, 12, Status::WriteFault, b"new\n"),
         ("frob", 0, 0, 100, Status::WriteFault, b""),
+        ("frob --due 0", 0, 0, 100, Status::WriteFault, b""),
+        ("pipe --due 0", 0, 0, 100, Status::WriteFault, b""),
+        ("pipe --due 0", 0, 9, 11, Status::WriteFault, b""),
     ];
-    for (word, read, write, room, status, output) in table {
+    for (line, read, write, room, status, output) in table {
         let mut source = BytesSource::new(rt.alloc(), SESSION, 9, &[read])?;
         let mut sink = BytesSink::new(rt.alloc(), room, &[write])?;
-        let ended = xindex(&rt, rt.alloc(), &[word], &mut source, &mut sink);
+        let words: Vec<&str> = line.split(' ').collect(rt.alloc())?;
+        let ended = xindex(&rt, rt.alloc(), &words, &mut source, &mut sink).status;
         assert_eq!(rt;
             ended,
             status,
-            "{word} with failing calls {read} and {write}"
+            "{line} with failing calls {read} and {write}"
         );
         assert_eq!(rt;
             sink.bytes(),
             output,
-            "{word} with failing calls {read} and {write}"
+            "{line} with failing calls {read} and {write}"
         );
     }
     Ok(())
@@ -139,6 +232,7 @@ fn each_status_has_its_number(rt: HostRuntime) {
         (Status::ReadFault, 3),
         (Status::WriteFault, 4),
         (Status::Memory, 6),
+        (Status::BadLimits, 7),
         (Status::Limit, 9),
     ];
     for (status, number) in table {

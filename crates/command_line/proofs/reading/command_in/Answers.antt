@@ -1,14 +1,8 @@
-use Rattle.std.proofs.Common.{◌≡◌, ◌∙◌, ℕ, List, Option, Some, ap, sym}
-use Rattle.clap.proofs.WalkLemmas.{first_value-rows}
-use Rattle.clap.specs.Words.{first_of, first_value, found_of, rows_of}
-use Rattle.clap.specs.declared.parser.matches.Found.{Found}
+use Rattle.std.proofs.Common.{◌∙◌, Some, ap, sym}
+use Rattle.clap.specs.Words.{found_of}
 use Rattle.command_line.specs.Grammar.{bytes_name, mode_name}
+use Rattle.command_line.proofs.ReadingLaws.{row_text}
 use Rattle.command_line.proofs.reading.command_in.Goals as goal
-
--- what the getter gave for a name is the text of that name's row
-row_text : (found : Found) (name : List ℕ) (given : Option (List ℕ)) → given ≡ first_value found name
-    → first_of name (rows_of found) ≡ given
-row_text found name given is = sym (first_value-rows found name) ∙ sym is
 
 pub returns-in_err-get_str-clause-none : goal.returns-in_err-get_str-clause-none
 returns-in_err-get_str-clause-none c =
@@ -39,4 +33,6 @@ returns-clause-some c =
     record {
       mode = mode_given ∙ ap Some (sym c.in_ok-mode.ensures.some);
       bytes = rw bytes_given c.in_ok-bytes.ensures;
+      numbers = c.in_ok-limits.ensures.0;
+      limits = c.in_ok-limits.ensures.1;
     }

@@ -2,8 +2,8 @@ use Rattle.std.proofs.Common.{◌≡◌, [], ◌∷◌, ◌++◌, ◌+◌, lengt
 use Rattle.wire_commands.proofs.ReplyLaws.{writes_three}
 use Rattle.wire_commands.proofs.reply.write_number.Goals as goal
 
-pub returns : goal.returns
-returns c =
+pub returns-clause-line : goal.returns-clause-line
+returns-clause-line c =
     let digits : c.as_bytes.result.now ≡ decimal c.args.number = c.as_bytes.ensures.value
     ∙ c.format.ensures.text in
     writes_three c.args.into.now c.append-end.new.into c.append-end-2.new.into c.append.new.into

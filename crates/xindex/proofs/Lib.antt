@@ -1,0 +1,3 @@
+pub mod LimitLaws
+pub mod Sessions
+pub mod PlainSessions

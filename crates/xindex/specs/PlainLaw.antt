@@ -1,0 +1,48 @@
+-- What follows of sessions over an index that nobody else changes, as statements: where no reply is `full` or
+-- `worn`, each is a session over a plain map.
+use Rattle.std.specs.Prelude.{◌≡◌, ℕ, ◌≤◌, List, []}
+use Rattle.std.specs.List.{AllByRecursion}
+use Rattle.map_model.specs.History.{inserts}
+use Rattle.map_model.specs.Logs.{Log, changes_of}
+use Rattle.map_model.specs.PlainMap.{Answers}
+use Rattle.wire_commands.specs.declared.request.Request.{Request}
+use Rattle.wire_commands.specs.declared.reply.Reply.{Reply}
+use Rattle.wire_commands.specs.declared.reply.Reply.TheVariants.{Full, Worn}
+use Rattle.line_session.specs.declared.ends.Ended.{Ended}
+use Rattle.line_session.specs.Asked.{Stop}
+use Rattle.line_session.specs.Laws.{WroteAll}
+use Rattle.line_session.specs.Served.{Conversation}
+use Rattle.line_session.specs.Session.{Session}
+use Rattle.word_layout.specs.declared.limits.Limits.{Limits}
+use Rattle.xindex_core.specs.Alone.{AnswersAlone, map_of}
+
+-- the reply does not tell that the index refused a call
+abbrev pub IsNoRefusal : Reply → Type 0
+IsNoRefusal Full = ⊥
+IsNoRefusal Worn = ⊥
+IsNoRefusal reply = Unit {0}
+
+-- no reply tells that the index refused a call
+abbrev pub HasNoRefusal : List Reply → Type 0
+HasNoRefusal replies = AllByRecursion IsNoRefusal replies
+
+-- a session without a refusal is one over a plain map, from the empty one to the one that the log tells, with
+-- any room that as many keys as were inserted fit in
+abbrev pub SessionsAloneArePlain : Type 0
+SessionsAloneArePlain =
+    (l : Limits) (log : Log) (requests : List Request) (replies : List Reply) (room : ℕ) →
+    Session (AnswersAlone l) [] requests replies log → HasNoRefusal replies →
+    inserts [] (changes_of log) ≤ room →
+    Session Answers (record { pairs = []; room = room }) requests replies
+    (record { pairs = map_of log; room = room })
+
+-- two sessions without a refusal, of the same bytes and ended in the same way, write the same text and
+-- leave the same map, whatever the limits of their indexes are
+abbrev pub BytesAloneHaveOneText : Type 0
+BytesAloneHaveOneText =
+    (l m : Limits) (log more : Log) (ended : Ended) (stop other : Stop)
+    (taken written text : List ℕ) → WroteAll ended →
+    (one : Conversation (AnswersAlone l) [] log ended stop taken written) →
+    (two : Conversation (AnswersAlone m) [] more ended other taken text) →
+    HasNoRefusal one.replies → HasNoRefusal two.replies →
+    (written ≡ text) × (map_of log ≡ map_of more)

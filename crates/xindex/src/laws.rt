@@ -1,0 +1,27 @@
+//! What holds of all sessions over an index that nobody else changes.
+//!
+//! The functions do nothing: each has a law for its contract, and so the check proves the law.
+ghost use Rattle.xindex.specs.PlainLaw.{BytesAloneHaveOneText, SessionsAloneArePlain};
+
+/// Where no reply is `full` or `worn`, the session is one over a plain map too, with the same requests and
+/// replies, and it leaves the map that the log tells.
+pub fn sessions_alone_are_plain()
+    ensures { SessionsAloneArePlain }
+{}
+
+/// Where no reply is `full` or `worn`, what a session writes and the map that it leaves are settled by the
+/// bytes that it took and by how it ended, unless the sink failed.
+pub fn bytes_alone_have_one_text()
+    ensures { BytesAloneHaveOneText }
+{}
+
+#[cfg(test)]
+mod tests {
+    use super::*;
+
+    #[test]
+    fn the_laws_hold_without_a_premise() {
+        sessions_alone_are_plain();
+        bytes_alone_have_one_text();
+    }
+}
