@@ -1,6 +1,6 @@
 -- What links say that were loaded, and how keys rise along them.
 use Rattle.std.proofs.Common.{◌≡◌, ◌≢◌, ℕ, zero, suc, ◌+◌, ◌-◌, ◌<◌, ◌^◌, inl, ⊎_elim}
-use Rattle.std.proofs.Common.{true, refl, sym, ap, ◌∙◌, subst, arith, eq-eqb}
+use Rattle.std.proofs.Common.{true, refl, ap, arith, eq-eqb}
 use Rattle.word_layout.specs.declared.headers.HeaderWord.TheVariants as header
 use Rattle.word_layout.specs.declared.places.Part.TheVariants as part
 use Rattle.word_layout.specs.Words.{Header, PlaceWord}
@@ -12,13 +12,8 @@ use Rattle.index_machine.specs.Execution.{Execution}
 use Rattle.index_machine.specs.Reaching.{names_place}
 use Rattle.index_machine.specs.RecordConditions.{IsLinkInto}
 use Rattle.index_machine.specs.Rows.{InBuffer, Role, role, role_key}
-use Rattle.index_machine.specs.Words.{limits, link_behind, word}
+use Rattle.index_machine.specs.Words.{limits, link_behind}
 use Rattle.index_machine.proofs.Placing.{buffer_row}
-use Rattle.machine_buffers.specs.NextRows.{row_from}
-use Rattle.machine_buffers.specs.Walks.{IsWalkable}
-use Rattle.machine_buffers.proofs.NextRows.{EndsBelow, IsFirstFrom, first_or_none}
-use Rattle.machine_buffers.proofs.Walks.{next_rows, rise}
-use Rattle.machine_readers.specs.Buffers.{rows}
 use Rattle.index_rule.specs.Records.{key_at, or_zero}
 use Rattle.index_rule.proofs.RecordSteps.{place_below}
 use Rattle.delta_buffer.specs.Walks.{load_of_link}
@@ -56,23 +51,6 @@ names_own (suc n) some = eq-eqb (suc n) (suc n) refl
 
 pub buffer_key : {g i j : ℕ} → InBuffer g i ≡ InBuffer g j → i ≡ j
 buffer_key e = cc
-
--- the row behind another one has a greater key
-pub rises : (o : Opening) (t : Execution) (g p q i j : ℕ) → Valid o t → IsWalkable o g t →
-    role o p t ≡ InBuffer g i → word o t (PlaceWord p part.Link) ≡ q →
-    role o q t ≡ InBuffer g j → i < j
-rises o t g p q i j valid w here leads there =
-    let from : q ≡ row_from (i + 1) (rows g t) = sym leads ∙ next_rows o t valid g i p here in
-    ⊎_elim
-    (λ (z : EndsBelow (rows g t) (i + 1) × (row_from (i + 1) (rows g t) ≡ 0)).
-    absurd (row_some o t g q j valid there (from ∙ z.1)))
-    (λ (f : IsFirstFrom (rows g t) (i + 1) (row_from (i + 1) (rows g t))).
-    let stands : role o q t ≡ InBuffer g f.0 =
-    subst (λ (y : ℕ). role o y t ≡ InBuffer g f.0) (sym from)
-    (w.standing f.0 (row_from (i + 1) (rows g t)) f.1) in
-    let same : j ≡ f.0 = buffer_key (sym there ∙ stands) in
-    let le = f.2 in omega arith)
-    (first_or_none (rows g t) (i + 1) (rise o t valid g))
 
 -- ---- a walk ends ----
 

@@ -23,7 +23,7 @@ use Rattle.index_machine.proofs.Placing.{buffer_row, placed}
 use Rattle.machine_buffers.specs.Walks.{IsWalkable}
 use Rattle.machine_buffers.proofs.LinkingRows.{all_listed}
 use Rattle.machine_buffers.proofs.NextRows.{less_or_not}
-use Rattle.machine_buffers.proofs.Walks.{rise}
+use Rattle.machine_buffers.proofs.Walks.{rise, rises}
 use Rattle.machine_places.specs.RowCounts.{all_rows}
 use Rattle.machine_places.proofs.Forms.{none_some}
 use Rattle.machine_readers.specs.Buffers.{rows}
@@ -40,7 +40,7 @@ use Rattle.delta_buffer.specs.Walks.{FollowsLink}
 use Rattle.delta_buffer.proofs.KeyCounts.{below_fits, below_kept, below_least, below_most}
 use Rattle.delta_buffer.proofs.KeyCounts.{below_next_least, below_next_most, below_zero, keys_below}
 use Rattle.delta_buffer.proofs.KeyCounts.{none_unless}
-use Rattle.delta_buffer.proofs.Links.{buffer_key, link_of_row, rises, row_some}
+use Rattle.delta_buffer.proofs.Links.{buffer_key, link_of_row, row_some}
 use Rattle.delta_buffer.proofs.CallSteps.{begun_since}
 use Rattle.delta_buffer.proofs.Stepping.{IsOn, arrives, empty_from, sets_out}
 
@@ -139,7 +139,7 @@ module _ (b : Board) (g next count : ℕ) (h m : Hand) (has : HasCounted b g nex
       let row = row_some o (known m) g has.before z.0 has.on.valid z.1 in
       let leads : word o (known m) (PlaceWord has.before Link) ≡ next =
       ap (word o (known m)) (sym (link_of_row g has.before row)) ∙ has.on.leads in
-      let up = rises o (known m) g has.before next z.0 met.0 has.on.valid has.on.search.walkable
+      let up = rises o (known m) has.on.valid g has.before next z.0 met.0 has.on.search.walkable
       z.1 leads met.1.0 in
       let is = z.2 in
       omega arith)

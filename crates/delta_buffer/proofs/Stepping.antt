@@ -16,7 +16,7 @@ use Rattle.index_machine.specs.Words.{link_behind, word}
 use Rattle.index_machine.proofs.Executions.{continues_same, continues_trans, own_step}
 use Rattle.index_machine.proofs.Holders.{TakesLock}
 use Rattle.machine_buffers.specs.Walks.{Decides, IsLinkBefore, IsWalkable}
-use Rattle.machine_buffers.proofs.Walks.{decide, stay_before, walkable_while}
+use Rattle.machine_buffers.proofs.Walks.{decide, rises, stay_before, walkable_while}
 use Rattle.machine_places.proofs.Forms.{some_is}
 use Rattle.machine_readers.specs.Buffers.{rows}
 use Rattle.index_rule.specs.declared.board.Board.{Board}
@@ -34,7 +34,7 @@ use Rattle.delta_buffer.specs.Walks.{FollowsLink, HasJustMade, IsWalkOf, Walks, 
 use Rattle.delta_buffer.proofs.CallSteps.{begun_since, just_made}
 use Rattle.delta_buffer.proofs.Links.{buffer_key, left_none, left_some, link_of_head, link_of_row}
 use Rattle.delta_buffer.proofs.Links.{load_of_row, names_own}
-use Rattle.delta_buffer.proofs.Links.{rise_left, rises, row_some}
+use Rattle.delta_buffer.proofs.Links.{rise_left, row_some}
 
 -- ---- the loads of a walk ----
 
@@ -363,7 +363,7 @@ left_falls b g key before next met next2 h m n k on some l lt follows =
     (λ (z : next2 ≡ 0).
     let new = left_none o key next2 (known k) z in omega arith)
     (λ (z : (j : ℕ) × IsReachedRow o k.number g j next2 (known k)).
-    let more : met < z.0 = rises o (known k) g next next2 met z.0 on_k.valid on_k.search.walkable
+    let more : met < z.0 = rises o (known k) on_k.valid g next next2 met z.0 on_k.search.walkable
     here (ap (word o (known k)) (sym (link_of_row g next some)) ∙ on_k.leads) z.1.0 in
     let new = left_some o key next2 z.0 g (known k)
     (row_some o (known k) g next2 z.0 on_k.valid z.1.0) z.1.0 in

@@ -20,6 +20,7 @@ use Rattle.machine_buffers.proofs.OutOfUse.{group_out}
 use Rattle.machine_buffers.specs.Inserting.{ArraysWithoutValueStay, HasFinalArray}
 use Rattle.machine_buffers.specs.Inserting.{MayLinkBehindOpened, MayLinkWhereSeenOpen}
 use Rattle.machine_buffers.specs.Inserting.{IsNewKeyFor, OpenedBuffersWithoutValueStay}
+use Rattle.machine_buffers.specs.Phases.{OpenedPhasesStay}
 use Rattle.machine_readers.proofs.FromOpening.{buffer_tombstones, gaps, insert_behind, insert_open}
 use Rattle.machine_readers.proofs.FromOpening.{stay_behind, without_value}
 use Rattle.machine_readers.proofs.ReadSections.{saw_opened_on, stands_in_on}
@@ -46,9 +47,7 @@ opened_on o t b d c g f may is s e = ⊎_elim
     (λ (y : z.0 ≡ f). (m.replaced g (e ∙ ap (λ (x : ℕ). Opened x) (sym y))).empty c is s) z.5))
     (phase_stays o t b d g f may e)
 
-opened_while : (o : Opening) (c g f : ℕ) → IsCaller o c → (n t : Execution) → Valid o (n ++ t) →
-    StaysInside c n → stands_in c g t ≡ true → phase g t ≡ Opened f →
-    phase g (n ++ t) ≡ Opened f
+pub opened_while : OpenedPhasesStay
 opened_while o c g f is [] t valid stay s e = e
 opened_while o c g f is (x ∷ n) t valid stay s e =
     opened_on o (n ++ t) x.by x.action c g f valid.0 is (stands_in_on c g n t stay.1 s)

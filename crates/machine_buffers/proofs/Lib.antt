@@ -1,9 +1,11 @@
 pub mod NextRows
+pub mod LinkedLanes
 pub mod OutOfUse
 pub mod LinkWords
 pub mod LinkingRows
 pub mod Walkable
 pub mod Phases
 pub mod Leave
+pub mod Ranges
 pub mod Walks
 pub mod Inserting

@@ -1,10 +1,10 @@
 -- The row from a key on, as a row is put among others.
-use Rattle.std.proofs.Common.{◌≡◌, ◌≢◌, ℕ, ◌+◌, ◌<◌, ◌≤◌, ◌⊎◌, inl, inr, ⊎_elim, Some}
+use Rattle.std.proofs.Common.{◌≡◌, ◌≢◌, ℕ, ◌+◌, ◌<◌, ◌≤◌, ◌⊎◌, inl, inr, ⊎_elim, Option, Some, None}
 use Rattle.std.proofs.Common.{[], ◌∷◌, refl, sym, ap, ◌∙◌, arith}
 use Rattle.std.proofs.lemmas.Bool.Decides.{nat_tests}
 use mathlib.Core.Logic.{dite}
 use native.Mathlib.Decide.{ℕ_discrete}
-use Rattle.machine_buffers.specs.NextRows.{row_from}
+use Rattle.machine_buffers.specs.Lanes.{IsBefore, before_end, below, place_of_row, link_from}
 use Rattle.machine_places.proofs.Forms.{none_some, some_is}
 use Rattle.map_model.proofs.Pairs.{AllAbove}
 use Rattle.map_model.specs.Map.{IsRising, Map, first_from, look, put}
@@ -53,70 +53,139 @@ found_on r rs k q rising e =
 
 -- ---- the first row from a key on ----
 
-from_none : (low : ℕ) → row_from low [] ≡ 0
+from_none : (low : ℕ) → first_from [] low ≡ None
 unfolding first_from
 from_none low = refl
 
-pub from_here : (r : ℕ × ℕ) (rs : Map) (low : ℕ) → low ≤ r.0 → row_from low (r ∷ rs) ≡ r.1
+from_here : (r : ℕ × ℕ) (rs : Map) (low : ℕ) → low ≤ r.0 → first_from (r ∷ rs) low ≡ Some r
 unfolding first_from
 from_here r rs low le = grind (arith, nat_tests)
 
-pub from_later : (r : ℕ × ℕ) (rs : Map) (low : ℕ) → r.0 < low →
-    row_from low (r ∷ rs) ≡ row_from low rs
+from_later : (r : ℕ × ℕ) (rs : Map) (low : ℕ) → r.0 < low →
+    first_from (r ∷ rs) low ≡ first_from rs low
 unfolding first_from
 from_later r rs low lt = grind (arith, nat_tests)
 
 -- none has this key or a greater one
-abbrev pub EndsBelow : Map → ℕ → Type 0
+abbrev EndsBelow : Map → ℕ → Type 0
 EndsBelow m low = (i q : ℕ) → look m i ≡ Some q → i < low
 
 -- this row is the first from the key on
-abbrev pub IsFirstFrom : Map → ℕ → ℕ → Type 0
-IsFirstFrom m low place =
-    (i : ℕ) × (look m i ≡ Some place) × (low ≤ i)
-    × ((j q : ℕ) → look m j ≡ Some q → low ≤ j → i ≤ j)
+abbrev IsFirstFrom : Map → ℕ → ℕ × ℕ → Type 0
+IsFirstFrom m low r =
+    (look m r.0 ≡ Some r.1) × (low ≤ r.0)
+    × ((j q : ℕ) → look m j ≡ Some q → low ≤ j → r.0 ≤ j)
 
--- it is a row, unless none is left
-pub first_or_none : (m : Map) (low : ℕ) → IsRising m →
-    (EndsBelow m low × (row_from low m ≡ 0)) ⊎ IsFirstFrom m low (row_from low m)
+-- there is one, unless none is left
+first_or_none : (m : Map) (low : ℕ) → IsRising m →
+    (EndsBelow m low × (first_from m low ≡ None))
+    ⊎ ((r : ℕ × ℕ) × (first_from m low ≡ Some r) × IsFirstFrom m low r)
 first_or_none [] low rising = inl ((λ i q e. none_in_empty i q e), from_none low)
 first_or_none (r ∷ rs) low rising = ⊎_elim
     (λ (lt : r.0 < low). later lt (first_or_none rs low rising.1))
-    (λ (le : low ≤ r.0). inr (
-      r.0,
-      look_first r rs ∙ ap Some (sym (from_here r rs low le)),
-      le,
-      λ j q e l. ⊎_elim
-          (λ (s : (r.0 ≡ j) × (r.1 ≡ q)). let is = s.0 in omega arith)
-          (λ (s : (r.0 ≢ j) × (look rs j ≡ Some q)).
-          let up = (found_on r rs j q rising s.1).0 in omega arith)
-          (found_where r rs j q e),
-    ))
+    (λ (le : low ≤ r.0). inr (r, from_here r rs low le, (look_first r rs, le, first_least le)))
     (less_or_not r.0 low)
   where
+    first_least : low ≤ r.0 → (j q : ℕ) → look (r ∷ rs) j ≡ Some q → low ≤ j → r.0 ≤ j
+    first_least le j q e l = ⊎_elim
+        (λ (s : (r.0 ≡ j) × (r.1 ≡ q)). let is = s.0 in omega arith)
+        (λ (s : (r.0 ≢ j) × (look rs j ≡ Some q)).
+        let up = (found_on r rs j q rising s.1).0 in omega arith)
+        (found_where r rs j q e)
+
+    later_least : (f : ℕ × ℕ) → r.0 < low → IsFirstFrom rs low f → (j q : ℕ) →
+        look (r ∷ rs) j ≡ Some q → low ≤ j → f.0 ≤ j
+    later_least f lt is j q e l = ⊎_elim
+        (λ (s : (r.0 ≡ j) × (r.1 ≡ q)). let same = s.0 in absurd (omega arith))
+        (λ (s : (r.0 ≢ j) × (look rs j ≡ Some q)). is.2 j q s.1 l)
+        (found_where r rs j q e)
+
     later : r.0 < low →
-        (EndsBelow rs low × (row_from low rs ≡ 0)) ⊎ IsFirstFrom rs low (row_from low rs) →
-        (EndsBelow (r ∷ rs) low × (row_from low (r ∷ rs) ≡ 0))
-        ⊎ IsFirstFrom (r ∷ rs) low (row_from low (r ∷ rs))
+        (EndsBelow rs low × (first_from rs low ≡ None))
+        ⊎ ((f : ℕ × ℕ) × (first_from rs low ≡ Some f) × IsFirstFrom rs low f) →
+        (EndsBelow (r ∷ rs) low × (first_from (r ∷ rs) low ≡ None))
+        ⊎ ((f : ℕ × ℕ) × (first_from (r ∷ rs) low ≡ Some f) × IsFirstFrom (r ∷ rs) low f)
     later lt old = ⊎_elim
-        (λ (z : EndsBelow rs low × (row_from low rs ≡ 0)). inl (
+        (λ (z : EndsBelow rs low × (first_from rs low ≡ None)). inl (
           λ i q e. ⊎_elim
               (λ (s : (r.0 ≡ i) × (r.1 ≡ q)). let is = s.0 in omega arith)
               (λ (s : (r.0 ≢ i) × (look rs i ≡ Some q)). z.0 i q s.1)
               (found_where r rs i q e),
           from_later r rs low lt ∙ z.1,
         ))
-        (λ (z : IsFirstFrom rs low (row_from low rs)). inr (
+        (λ (z : (f : ℕ × ℕ) × (first_from rs low ≡ Some f) × IsFirstFrom rs low f). inr (
           z.0,
-          (found_on r rs z.0 (row_from low rs) rising z.1).1
-              ∙ ap Some (sym (from_later r rs low lt)),
-          z.2,
-          λ j q e l. ⊎_elim
-              (λ (s : (r.0 ≡ j) × (r.1 ≡ q)). let is = s.0 in absurd (omega arith))
-              (λ (s : (r.0 ≢ j) × (look rs j ≡ Some q)). z.3 j q s.1 l)
-              (found_where r rs j q e),
+          from_later r rs low lt ∙ z.1,
+          ((found_on r rs (z.0).0 (z.0).1 rising (z.2).0).1, (z.2).1, later_least z.0 lt z.2),
         ))
         old
+
+-- ---- up to an end ----
+
+here_below : (end : ℕ) (r : ℕ × ℕ) → r.0 < end → below end (Some r) ≡ Some r
+here_below end r lt = grind (arith, nat_tests)
+
+past_end : (end : ℕ) (r : ℕ × ℕ) → end ≤ r.0 → below end (Some r) ≡ None
+past_end end r le = grind (arith, nat_tests)
+
+-- a row before the end is kept
+pub here_before : (end : Option ℕ) (r : ℕ × ℕ) → IsBefore r.0 end → before_end end (Some r) ≡ Some r
+here_before None r is = refl
+here_before (Some end) r is = here_below end r is
+
+none_before : (end : Option ℕ) → before_end end None ≡ None
+none_before None = refl
+none_before (Some end) = refl
+
+-- no row from this key on stands before the end
+abbrev pub HasNoneFrom : Map → ℕ → Option ℕ → Type 0
+HasNoneFrom m low end = (i q : ℕ) → look m i ≡ Some q → low ≤ i → IsBefore i end → ⊥
+
+-- the row at this place is the first from the key on, and stands before the end
+abbrev pub IsFirstBefore : Map → ℕ → Option ℕ → ℕ → Type 0
+IsFirstBefore m low end place =
+    (i : ℕ) × (look m i ≡ Some place) × (low ≤ i) × IsBefore i end
+    × ((j q : ℕ) → look m j ≡ Some q → low ≤ j → i ≤ j)
+
+not_after : (k i : ℕ) (end : Option ℕ) → k ≤ i → IsBefore i end → IsBefore k end
+not_after k i None le is = tt
+not_after k i (Some end) le is = let lt : i < end = is in omega arith
+
+-- a link leads to the first row of the lane from a key on, unless none is left
+pub row_or_none : (m : Map) (low : ℕ) (end : Option ℕ) → IsRising m →
+    (HasNoneFrom m low end × (link_from end low m ≡ 0))
+    ⊎ IsFirstBefore m low end (link_from end low m)
+row_or_none m low end rising = ⊎_elim
+    (λ (z : EndsBelow m low × (first_from m low ≡ None)). inl (
+      (λ i q e le is. let lt = z.0 i q e in absurd (omega arith)),
+      ap (λ (f : Option (ℕ × ℕ)). place_of_row (before_end end f)) z.1
+          ∙ ap place_of_row (none_before end),
+    ))
+    (λ (z : (r : ℕ × ℕ) × (first_from m low ≡ Some r) × IsFirstFrom m low r).
+    go end z.0 z.1 (z.2).0 (z.2).1 (z.2).2)
+    (first_or_none m low rising)
+  where
+    go : (to : Option ℕ) (r : ℕ × ℕ) → first_from m low ≡ Some r → look m r.0 ≡ Some r.1 →
+        low ≤ r.0 → ((j q : ℕ) → look m j ≡ Some q → low ≤ j → r.0 ≤ j) →
+        (HasNoneFrom m low to × (link_from to low m ≡ 0))
+        ⊎ IsFirstBefore m low to (link_from to low m)
+    go None r from here le least =
+        inr (r.0, here ∙ ap Some (sym (ap place_of_row from)), le, tt, least)
+    go (Some e) r from here le least = ⊎_elim
+        (λ (lt : r.0 < e). inr (
+          r.0,
+          here ∙ ap Some (sym (ap (λ (f : Option (ℕ × ℕ)). place_of_row (below e f)) from
+              ∙ ap place_of_row (here_below e r lt))),
+          le,
+          lt,
+          least,
+        ))
+        (λ (past : e ≤ r.0). inl (
+          (λ i q f l is. let up = least i q f l in let lt : i < e = is in absurd (omega arith)),
+          ap (λ (f : Option (ℕ × ℕ)). place_of_row (below e f)) from
+              ∙ ap place_of_row (past_end e r past),
+        ))
+        (less_or_not r.0 e)
 
 -- ---- a row put among others ----
 
@@ -150,7 +219,7 @@ order i j = grind arith
 
 -- behind the row that is put the rows are those that were there
 pub from_behind_put : (m : Map) (low k p : ℕ) → k < low →
-    row_from low (put m k p) ≡ row_from low m
+    first_from (put m k p) low ≡ first_from m low
 from_behind_put [] low k p lt = rw (put_none k p) (from_later (k, p) [] low lt)
 from_behind_put (r ∷ rs) low k p lt = ⊎_elim
     (λ (h : k < r.0). rw (put_first r rs k p h) (from_later (k, p) (r ∷ rs) low lt))
@@ -165,7 +234,7 @@ from_behind_put (r ∷ rs) low k p lt = ⊎_elim
 
 -- a row put into a gap is the first of it
 pub from_gap_put : (m : Map) (low k p : ℕ) → IsRising m → low ≤ k → IsGap m low k →
-    row_from low (put m k p) ≡ p
+    first_from (put m k p) low ≡ Some (k, p)
 from_gap_put [] low k p rising le gap = rw (put_none k p) (from_here (k, p) [] low le)
 from_gap_put (r ∷ rs) low k p rising le gap = ⊎_elim
     (λ (h : k < r.0). rw (put_first r rs k p h) (from_here (k, p) (r ∷ rs) low le))
@@ -181,7 +250,7 @@ from_gap_put (r ∷ rs) low k p rising le gap = ⊎_elim
 
 -- where a row stands before the one that is put, that one is the first still
 pub from_before_put : (m : Map) (low k p i q : ℕ) → IsRising m → low ≤ i → i < k →
-    look m i ≡ Some q → row_from low (put m k p) ≡ row_from low m
+    look m i ≡ Some q → first_from (put m k p) low ≡ first_from m low
 from_before_put [] low k p i q rising le lt e = none_in_empty i q e
 from_before_put (r ∷ rs) low k p i q rising le lt e = ⊎_elim
     (λ (s : (r.0 ≡ i) × (r.1 ≡ q)). let is = s.0 in
@@ -199,7 +268,7 @@ from_before_put (r ∷ rs) low k p i q rising le lt e = ⊎_elim
 
 -- the row from one end of a gap on is that from the other end on
 pub from_over_gap : (m : Map) (low k : ℕ) → IsRising m → low ≤ k → IsGap m low k →
-    row_from (k + 1) m ≡ row_from low m
+    first_from m (k + 1) ≡ first_from m low
 from_over_gap [] low k rising le gap = from_none (k + 1) ∙ sym (from_none low)
 from_over_gap (r ∷ rs) low k rising le gap = ⊎_elim
     (λ (lt : r.0 < low). from_later r rs (k + 1) (omega arith)

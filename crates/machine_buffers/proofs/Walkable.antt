@@ -1,6 +1,6 @@
 -- Every buffer is walkable, or its group is out of use; and its links lead from row to row.
-use Rattle.std.proofs.Common.{◌≡◌, ◌≢◌, ℕ, ◌+◌, ◌⊎◌, inl, inr, ⊎_elim, Some, [], ◌∷◌, cond, refl}
-use Rattle.std.proofs.Common.{sym, ap, ◌∙◌, subst, Bool, true, false}
+use Rattle.std.proofs.Common.{◌≡◌, ◌≢◌, ℕ, ◌+◌, ◌⊎◌, inl, inr, ⊎_elim, None, Some, [], ◌∷◌, cond}
+use Rattle.std.proofs.Common.{arith, refl, sym, ap, ◌∙◌, subst, Bool, true, false}
 use Rattle.std.specs.Prelude.{◌==◌}
 use mathlib.Core.Logic.{dite}
 use native.Mathlib.Decide.{ℕ_discrete}
@@ -21,12 +21,12 @@ use Rattle.index_machine.specs.declared.events.Action.TheVariants.{StoreHeader}
 use Rattle.index_machine.specs.declared.opening.Opening.{Opening}
 use Rattle.machine_barriers.proofs.Reaches.{may_as}
 use Rattle.machine_buffers.proofs.LinkWords.{LinksBehind, StoresHead, head_stays, link_stays}
-use Rattle.machine_buffers.proofs.LinkingRows.{BuffersHold, head_here, link_of_new, link_of_old}
-use Rattle.machine_buffers.proofs.LinkingRows.{places_here, row_is, row_place, rows_here}
+use Rattle.machine_buffers.proofs.LinkedLanes.{row_is}
+use Rattle.machine_buffers.proofs.LinkingRows.{BuffersHold, lane_on, places_here, row_place}
 use Rattle.machine_buffers.proofs.NextRows.{none_in_empty}
 use Rattle.machine_buffers.proofs.OutOfUse.{Begins, begins_or_not, out_on, replaced_out}
 use Rattle.machine_buffers.specs.Groups.{IsOutOfUse}
-use Rattle.machine_buffers.specs.NextRows.{row_from}
+use Rattle.machine_buffers.specs.Lanes.{buffer_lane, next_row_behind, link_from}
 use Rattle.machine_buffers.specs.Walks.{IsWalkable, LinksLeadOn}
 use Rattle.machine_readers.proofs.Roles.{EndsRole, IsLinkOf, role_stays, row_back}
 use Rattle.machine_readers.specs.Buffers.{rows}
@@ -55,7 +55,7 @@ row_on o t b d g k q may e = ⊎_elim
 
 -- ---- a group that is begun ----
 
-no_rows : (low : ℕ) → row_from low [] ≡ 0
+no_rows : (low : ℕ) → link_from None low [] ≡ 0
 unfolding first_from
 no_rows low = refl
 
@@ -66,7 +66,7 @@ begun_walkable o t b g low high f may = record {
   head = ⊎_elim
       (λ (z : word o (event b (NewGroup g low high f) ∷ t) (Header g header.BufferHead)
       ≡ word o t (Header g header.BufferHead)). z ∙ (may.head_word
-      ∙ sym (ap (row_from 0) empty ∙ no_rows 0)))
+      ∙ sym (ap (link_from None 0) empty ∙ no_rows 0)))
       (λ (z : StoresHead g (NewGroup g low high f)). absurd (never z))
       (head_stays o t b (NewGroup g low high f) g);
   standing = λ k q e. none_in_empty k q (ap (λ (y : Map). look y k) (sym empty) ∙ e);
@@ -102,7 +102,7 @@ walk_kept : (o : Opening) (t : Execution) (b : ℕ) (d : Action) (g : ℕ) → V
 walk_kept o t b d g valid may same w apart stay = ⊎_elim
     (λ (z : word o (event b d ∷ t) (Header g header.BufferHead)
     ≡ word o t (Header g header.BufferHead)). inl (record {
-      head = z ∙ (w.head ∙ ap (row_from 0) (sym same));
+      head = z ∙ (w.head ∙ ap (link_from None 0) (sym same));
       standing = λ k q e. stay k q (w.standing k q (ap (λ (y : Map). look y k) (sym same) ∙ e));
     }))
     (λ (z : StoresHead g d). ⊎_elim
@@ -147,22 +147,13 @@ walk_link o t b h p c before next valid may old g w = dite (ℕ_discrete h g)
     same : rows h T ≡ put (rows h t) (key_of c) p
     same = choice-same h h (put (rows h t) (key_of c) p) (rows h t) refl
 
-    stands : (k q : ℕ) → ((k ≡ key_of c) × (p ≡ q)) ⊎ (role o q t ≡ InBuffer h k) →
-        role o q T ≡ InBuffer h k
-    stands k q there = ⊎_elim
-        (λ (z : (k ≡ key_of c) × (p ≡ q)).
-        choice-same p q (InBuffer h (key_of c)) (role o q t) z.1
-        ∙ ap (λ (y : ℕ). InBuffer h y) (sym z.0))
-        (λ (z : role o q t ≡ InBuffer h k).
-        ⊎_elim (λ (w : role o q T ≡ InBuffer h k). w)
-        (λ (w : Retires q d). let bad = w.1 in cc) (row_on o t b d h k q may z)) there
-
     here : IsWalkable o h T
-    here = record {
-      head = head_here o t b h p c before next valid may old ∙ ap (row_from 0) (sym same);
-      standing = λ k q e. stands k q (rows_here o t b h p c before next valid may old k q
-          (ap (λ (y : Map). look y k) (sym same) ∙ e));
-    }
+    here =
+        let on = lane_on o t b h p c before next valid may old in
+        record {
+          head = on.head;
+          standing = λ k q e. on.standing k q e (omega arith, tt);
+        }
 
 walk_retire : (o : Opening) (t : Execution) (b q next : ℕ) → Valid o t →
     Allowed o t b (Retire q next) → (g : ℕ) → IsWalkable o g t →
@@ -238,18 +229,14 @@ walk_step o t b d valid may old g = ⊎_elim
 links_new : (o : Opening) (t : Execution) (b h p : ℕ) (c : Change) (before next : ℕ) →
     Valid o t → Allowed o t b (LinkRow h p c before next) → BuffersHold o t →
     LinksLeadOn o (event b (LinkRow h p c before next) ∷ t)
-links_new o t b h p c before next valid may old g j q e = ⊎_elim
-    (λ (z : role o q t ≡ InBuffer g j). dite (ℕ_discrete h g)
-    (λ (s : h ≡ g). at_group s (link_of_old o t b h p c before next valid may old j q
-    (z ∙ ap (λ (y : ℕ). InBuffer y j) (sym s))))
-    (λ (n : h ≢ g). elsewhere n z))
-    (λ (z : IsLinkOf g q j d). let s = link_is z.3 in
-    at_group s.0 (subst (λ (y : ℕ). word o T (PlaceWord y Link)
-    ≡ row_from (j + 1) (put (rows h t) (key_of c) p)) s.1
-    (subst (λ (y : ℕ). word o T (PlaceWord p Link)
-    ≡ row_from (y + 1) (put (rows h t) (key_of c) p)) (ap key_of s.2 ∙ z.4)
-    (link_of_new o t b h p c before next valid may old))))
-    (row_back o t b d q g j e)
+links_new o t b h p c before next valid may old g j q e = dite (ℕ_discrete h g)
+    (λ (s : h ≡ g). subst (λ (y : ℕ). role o q T ≡ InBuffer y j →
+    word o T (PlaceWord q Link) ≡ next_row_behind (buffer_lane y) j (rows y T)) s
+    (λ there. (lane_on o t b h p c before next valid may old).links j q there (omega arith, tt)) e)
+    (λ (n : h ≢ g). ⊎_elim
+    (λ (z : role o q t ≡ InBuffer g j). elsewhere n z)
+    (λ (z : IsLinkOf g q j d). absurd (n (linked z.3)))
+    (row_back o t b d q g j e))
   where
     d : Action
     d = LinkRow h p c before next
@@ -257,25 +244,18 @@ links_new o t b h p c before next valid may old g j q e = ⊎_elim
     T : Execution
     T = event b (LinkRow h p c before next) ∷ t
 
-    link_is : {a r u v : ℕ} {c' : Change} → LinkRow h p c before next ≡ LinkRow a r c' u v →
-        (h ≡ a) × (p ≡ r) × (c ≡ c')
-    link_is e = (cc, cc, cc)
-
-    at_group : h ≡ g → word o T (PlaceWord q Link) ≡ row_from (j + 1) (put (rows h t) (key_of c) p) →
-        word o T (PlaceWord q Link) ≡ row_from (j + 1) (rows g T)
-    at_group s w = w ∙ ap (row_from (j + 1))
-        (ap (λ (y : ℕ). put (rows y t) (key_of c) p) s
-        ∙ sym (choice-same h g (put (rows g t) (key_of c) p) (rows g t) s))
+    linked : {a r u v : ℕ} {c' : Change} → LinkRow h p c before next ≡ LinkRow a r c' u v → h ≡ a
+    linked e = cc
 
     behind_is : {a r u : ℕ} {c' : Change} → LinkRow h p c before next ≡ LinkRow a r c' q u →
         before ≡ q
     behind_is e = cc
 
     elsewhere : h ≢ g → role o q t ≡ InBuffer g j →
-        word o T (PlaceWord q Link) ≡ row_from (j + 1) (rows g T)
+        word o T (PlaceWord q Link) ≡ next_row_behind (buffer_lane g) j (rows g T)
     elsewhere n z = ⊎_elim
         (λ (w : word o T (PlaceWord q Link) ≡ word o t (PlaceWord q Link)).
-        w ∙ (old.links g j q z ∙ ap (row_from (j + 1))
+        w ∙ (old.links g j q z ∙ ap (link_from None (j + 1))
         (sym (choice-other h g (put (rows g t) (key_of c) p) (rows g t) n))))
         (λ (w : LinksBehind q d). let is = behind_is w.4 in ⊎_elim
         (λ (y : before ≡ 0). absurd (row_place o t g j q valid z (sym is ∙ y)))
@@ -291,7 +271,7 @@ links_else : (o : Opening) (t : Execution) (b : ℕ) (d : Action) → Allowed o 
 links_else o t b d may old same never g j q e = ⊎_elim
     (λ (z : role o q t ≡ InBuffer g j). ⊎_elim
     (λ (w : word o (event b d ∷ t) (PlaceWord q Link) ≡ word o t (PlaceWord q Link)).
-    w ∙ (old.links g j q z ∙ ap (row_from (j + 1)) (sym (same g j q z))))
+    w ∙ (old.links g j q z ∙ ap (link_from None (j + 1)) (sym (same g j q z))))
     (λ (w : LinksBehind q d). absurd (never w.0 w.1 q w.3 w.2 w.4))
     (link_stays o t b d q j may (ap role_key z)))
     (λ (z : IsLinkOf g q j d). absurd (never g q z.1 z.2 z.0 z.3))

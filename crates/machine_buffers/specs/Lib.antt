@@ -1,4 +1,4 @@
-pub mod NextRows
+pub mod Lanes
 pub mod Groups
 pub mod Walks
 pub mod Phases

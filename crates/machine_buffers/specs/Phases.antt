@@ -2,7 +2,9 @@
 use Rattle.std.specs.Prelude.{◌≡◌, ℕ, true, false, Some, ◌++◌}
 use Rattle.index_machine.specs.declared.opening.Opening.{Opening}
 use Rattle.index_machine.specs.Execution.{Execution}
+use Rattle.word_layout.specs.declared.phase.Phase.TheVariants.{Opened}
 use Rattle.index_machine.specs.Sections.{IsCaller, StaysInside}
+use Rattle.index_machine.specs.Groups.{phase}
 use Rattle.index_machine.specs.KeyRanges.{predecessor}
 use Rattle.index_machine.specs.Permissions.{MayInsertInto}
 use Rattle.index_machine.specs.Reaching.{stands_in}
@@ -29,6 +31,14 @@ TruePhasesStay =
     (o : Opening) (caller group : ℕ) → IsCaller o caller → (newer t : Execution) →
     Valid o (newer ++ t) → StaysInside caller newer → stands_in caller group t ≡ true →
     has_stale_phase group t ≡ false → has_stale_phase group (newer ++ t) ≡ false
+
+-- an opened phase stays while a caller stands in the group
+abbrev pub OpenedPhasesStay : Type 0
+OpenedPhasesStay =
+    (o : Opening) (caller group first : ℕ) → IsCaller o caller → (newer t : Execution) →
+    Valid o (newer ++ t) → StaysInside caller newer →
+    stands_in caller group t ≡ true → phase group t ≡ Opened first →
+    phase group (newer ++ t) ≡ Opened first
 
 -- leave to insert lasts as long as the read section
 abbrev pub LeaveToInsertStays : Type 0

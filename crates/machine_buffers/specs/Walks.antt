@@ -13,12 +13,14 @@ use Rattle.index_machine.specs.Words.{word, link_behind}
 use Rattle.index_machine.specs.Sections.{IsCaller, StaysInside}
 use Rattle.index_machine.specs.Rows.{InBuffer, role}
 use Rattle.index_machine.specs.KeyRanges.{predecessor}
+use Rattle.index_machine.specs.Permissions.{IsReplaced}
 use Rattle.index_machine.specs.Reaching.{stands_in}
 use Rattle.index_machine.specs.RecordConditions.{IsLinkInto}
 use Rattle.index_machine.specs.Conditions.{Valid}
 use Rattle.machine_readers.specs.Buffers.{rows}
-use Rattle.machine_buffers.specs.NextRows.{first_row, next_row_behind}
-use Rattle.machine_buffers.specs.Groups.{Answers}
+use Rattle.machine_buffers.specs.Lanes.{IsInRange, IsLaneLinkBefore, IsLinked, Lane, buffer_lane}
+use Rattle.machine_buffers.specs.Lanes.{first_row, lane_link, next_row_behind}
+use Rattle.machine_buffers.specs.Groups.{Answers, HasInRange, IsOutOfUse}
 
 -- ---- rows ----
 
@@ -26,12 +28,13 @@ use Rattle.machine_buffers.specs.Groups.{Answers}
 abbrev pub LinksLeadOn : Opening → Execution → Type 0
 LinksLeadOn o t =
     (group k place : ℕ) → role o place t ≡ InBuffer group k →
-    word o t (PlaceWord place part.Link) ≡ next_row_behind k (rows group t)
+    word o t (PlaceWord place part.Link) ≡ next_row_behind (buffer_lane group) k (rows group t)
 
 -- a walk through the buffer meets its rows: the head leads to the first of them, and all that were
 -- linked stand in the buffer
 pub record IsWalkable (o : Opening) (group : ℕ) (t : Execution) : Type 0 where
-  pub head : word o t (Header group header.BufferHead) ≡ first_row (rows group t)
+  pub head : word o t (Header group header.BufferHead)
+      ≡ first_row (buffer_lane group) (rows group t)
   pub standing : (k place : ℕ) → look (rows group t) k ≡ Some place →
       role o place t ≡ InBuffer group k
 
@@ -56,7 +59,7 @@ pub record Decides (o : Opening) (group k place : ℕ) (t : Execution) : Type 0 
   pub smaller : (j : ℕ) → role o place t ≡ InBuffer group j → j < k →
       IsLinkBefore o group k place t
 
--- ---- the laws, over all executions ----
+-- ---- the laws of rows, over all executions ----
 
 -- the link of a row leads to the row with the next key among those linked into its buffer
 abbrev pub LinksLeadToTheNextRow : Type 0
@@ -65,6 +68,22 @@ LinksLeadToTheNextRow = (o : Opening) (t : Execution) → Valid o t → LinksLea
 -- the keys of a buffer's rows rise
 abbrev pub KeysOfRowsRise : Type 0
 KeysOfRowsRise = (o : Opening) (t : Execution) → Valid o t → (group : ℕ) → IsRising (rows group t)
+
+-- each row is of a key in its group's range, unless the group is out of use
+abbrev pub RowsAreInRange : Type 0
+RowsAreInRange =
+    (o : Opening) (t : Execution) → Valid o t → (group k place : ℕ) →
+    role o place t ≡ InBuffer group k → HasInRange o group k t ⊎ IsOutOfUse o group t
+
+-- a row that was linked stays among the rows while a caller stands in the group: rows are only added
+abbrev pub LinkedRowsStay : Type 0
+LinkedRowsStay =
+    (o : Opening) (caller group k place : ℕ) → IsCaller o caller → (newer t : Execution) →
+    Valid o (newer ++ t) → StaysInside caller newer → stands_in caller group t ≡ true →
+    IsWalkable o group t → look (rows group t) k ≡ Some place →
+    look (rows group (newer ++ t)) k ≡ Some place
+
+-- ---- the laws of walkable buffers ----
 
 -- the buffer of a group that answers for a key, or that is a key's new group, is walkable
 abbrev pub BuffersOfKeysAreWalkable : Type 0
@@ -78,12 +97,33 @@ BuffersBeforeAreWalkable =
     (o : Opening) (t : Execution) → Valid o t → (caller group k : ℕ) → IsCaller o caller →
     stands_in caller group t ≡ true → predecessor o k t ≡ Some group → IsWalkable o group t
 
+-- and for the keeper it is so until all groups of its rebuild are gone
+abbrev pub OldBuffersAreWalkable : Type 0
+OldBuffersAreWalkable =
+    (o : Opening) (t : Execution) → Valid o t → (group k : ℕ) → predecessor o k t ≡ Some group →
+    IsWalkable o group t ⊎ IsReplaced o group t
+
 -- a walkable buffer stays so while a caller stands in the group
 abbrev pub WalkableBuffersStay : Type 0
 WalkableBuffersStay =
     (o : Opening) (caller group : ℕ) → IsCaller o caller → (newer t : Execution) →
     Valid o (newer ++ t) → StaysInside caller newer → stands_in caller group t ≡ true →
     IsWalkable o group t → IsWalkable o group (newer ++ t)
+
+-- its one lane is linked
+abbrev pub WalkableBuffersAreLinked : Type 0
+WalkableBuffersAreLinked =
+    (o : Opening) (t : Execution) → Valid o t → (group : ℕ) → IsWalkable o group t →
+    IsLinked o (buffer_lane group) t
+
+-- ---- the laws of links ----
+
+-- a link of a linked lane decides of a key that it stands before, unless it leads to a smaller one
+abbrev pub LaneLinksDecide : Type 0
+LaneLinksDecide =
+    (o : Opening) (t : Execution) → Valid o t → (lane : Lane) (k before : ℕ) → IsLinked o lane t →
+    IsInRange lane k → IsLaneLinkBefore o lane k before t →
+    Decides o lane.group k (word o t (lane_link lane before)) t
 
 -- what a link of a walkable buffer leads to is a row of it, or none
 abbrev pub LinksLeadIntoTheBuffer : Type 0
@@ -97,9 +137,26 @@ LinksBeforeAKeyDecide =
     (o : Opening) (t : Execution) → Valid o t → (group k before : ℕ) → IsWalkable o group t →
     IsLinkBefore o group k before t → Decides o group k (word o t (link_behind group before)) t
 
+-- the row behind another one has a greater key
+abbrev pub LinksRise : Type 0
+LinksRise =
+    (o : Opening) (t : Execution) → Valid o t → (group place next i j : ℕ) → IsWalkable o group t →
+    role o place t ≡ InBuffer group i → word o t (PlaceWord place part.Link) ≡ next →
+    role o next t ≡ InBuffer group j → i < j
+
 -- a link before a key stays one while a caller stands in the group
 abbrev pub LinksBeforeAKeyStay : Type 0
 LinksBeforeAKeyStay =
     (o : Opening) (caller group k before : ℕ) → IsCaller o caller → (newer t : Execution) →
     Valid o (newer ++ t) → StaysInside caller newer → stands_in caller group t ≡ true →
     IsLinkBefore o group k before t → IsLinkBefore o group k before (newer ++ t)
+
+-- what a link led to does not come back once it was left, while a caller stands in the group: where a link
+-- leads as it did before, it led there all the time
+abbrev pub LeftLinksDoNotComeBack : Type 0
+LeftLinksDoNotComeBack =
+    (o : Opening) (caller group before : ℕ) → IsCaller o caller → (later newer t : Execution) →
+    Valid o (later ++ (newer ++ t)) → StaysInside caller newer → StaysInside caller later →
+    stands_in caller group t ≡ true → IsWalkable o group t → IsLinkInto o group before t →
+    word o (later ++ (newer ++ t)) (link_behind group before) ≡ word o t (link_behind group before) →
+    word o (newer ++ t) (link_behind group before) ≡ word o t (link_behind group before)

@@ -2,13 +2,19 @@
 ghost use Rattle.machine_buffers.specs.Inserting.{ArraysWithoutValueStay, MayLinkBehindOpened};
 ghost use Rattle.machine_buffers.specs.Inserting.{MayLinkWhereSeenOpen};
 ghost use Rattle.machine_buffers.specs.Inserting.{OpenedBuffersWithoutValueStay};
-ghost use Rattle.machine_buffers.specs.Phases.{LeaveToInsertStays, PhasesBeforeAreTrue};
+ghost use Rattle.machine_buffers.specs.Lanes.{LinkedRowsTakeTheirPlace};
+ghost use Rattle.machine_buffers.specs.Phases.{LeaveToInsertStays, OpenedPhasesStay};
+ghost use Rattle.machine_buffers.specs.Phases.{PhasesBeforeAreTrue};
 ghost use Rattle.machine_buffers.specs.Phases.{PhasesOfKeysAreTrue};
 ghost use Rattle.machine_buffers.specs.Phases.{TruePhasesStay};
 ghost use Rattle.machine_buffers.specs.Walks.{BuffersBeforeAreWalkable, BuffersOfKeysAreWalkable};
-ghost use Rattle.machine_buffers.specs.Walks.{KeysOfRowsRise, LinksBeforeAKeyDecide};
+ghost use Rattle.machine_buffers.specs.Walks.{KeysOfRowsRise, LaneLinksDecide};
+ghost use Rattle.machine_buffers.specs.Walks.{LeftLinksDoNotComeBack, LinkedRowsStay};
+ghost use Rattle.machine_buffers.specs.Walks.{LinksBeforeAKeyDecide};
 ghost use Rattle.machine_buffers.specs.Walks.{LinksBeforeAKeyStay, LinksLeadIntoTheBuffer};
-ghost use Rattle.machine_buffers.specs.Walks.{LinksLeadToTheNextRow, WalkableBuffersStay};
+ghost use Rattle.machine_buffers.specs.Walks.{LinksLeadToTheNextRow, LinksRise};
+ghost use Rattle.machine_buffers.specs.Walks.{OldBuffersAreWalkable, RowsAreInRange};
+ghost use Rattle.machine_buffers.specs.Walks.{WalkableBuffersAreLinked, WalkableBuffersStay};
 
 /// The link of a row leads to the row with the next key among those linked into its buffer.
 pub fn links_lead_to_the_next_row()
@@ -20,6 +26,16 @@ pub fn keys_of_rows_rise()
     ensures { KeysOfRowsRise }
 {}
 
+/// Each row is of a key in its group's range, unless the group is out of use.
+pub fn rows_are_in_range()
+    ensures { RowsAreInRange }
+{}
+
+/// Rows are only added to a buffer where a caller stands.
+pub fn linked_rows_stay()
+    ensures { LinkedRowsStay }
+{}
+
 /// A walk meets the rows of a group that answers for a key, or that is a key's new group: its head
 /// leads to the first row, and all rows that were linked stand there.
 pub fn buffers_of_keys_are_walkable()
@@ -29,6 +45,27 @@ pub fn buffers_of_keys_are_walkable()
 /// So it does in the group that had a key before, for a caller that came late.
 pub fn buffers_before_are_walkable()
     ensures { BuffersBeforeAreWalkable }
+{}
+
+/// So it does in an old group for the keeper, until all groups of its rebuild are gone.
+pub fn old_buffers_are_walkable()
+    ensures { OldBuffersAreWalkable }
+{}
+
+/// A walkable buffer is one lane, with all keys, whose rows are linked from its head.
+pub fn walkable_buffers_are_linked()
+    ensures { WalkableBuffersAreLinked }
+{}
+
+/// A row that is linked into any linked lane, behind smaller keys and ahead of greater ones, takes its
+/// place there.
+pub fn linked_rows_take_their_place()
+    ensures { LinkedRowsTakeTheirPlace }
+{}
+
+/// A link of any linked lane decides of a key that it stands before, unless it leads to a smaller one.
+pub fn lane_links_decide()
+    ensures { LaneLinksDecide }
 {}
 
 /// A buffer is not taken apart, nor its head refilled, while a caller stands in the group.
@@ -44,6 +81,16 @@ pub fn links_lead_into_the_buffer()
 /// A link before a key decides of it at its load, unless it leads to a smaller key.
 pub fn links_before_a_key_decide()
     ensures { LinksBeforeAKeyDecide }
+{}
+
+/// The row behind another one has a greater key.
+pub fn links_rise()
+    ensures { LinksRise }
+{}
+
+/// Where a link leads as it did before, it led there all the time.
+pub fn left_links_do_not_come_back()
+    ensures { LeftLinksDoNotComeBack }
 {}
 
 /// A walk may go on from a link before the key, whatever others link meanwhile.
@@ -64,6 +111,11 @@ pub fn phases_before_are_true()
 /// A phase word goes on to say the phase while a caller stands in the group.
 pub fn true_phases_stay()
     ensures { TruePhasesStay }
+{}
+
+/// An opened group stays so while a caller stands there.
+pub fn opened_phases_stay()
+    ensures { OpenedPhasesStay }
 {}
 
 /// Leave to insert that a caller has lasts as long as its read section.

@@ -1,0 +1,5 @@
+use Rattle.machine_buffers.proofs.Walks.{takes_place}
+use Rattle.machine_buffers.proofs.laws.linked_rows_take_their_place.Goals as goal
+
+pub returns : goal.returns
+returns c = takes_place

@@ -1,0 +1,117 @@
+-- A buffer is a list of rows with rising keys, or several such lists, its lanes: each has a head word and a
+-- key range of its own.
+--
+-- The fact to remember: a lane's head leads to its first row, and each of its rows to the next one.
+use Rattle.std.specs.Prelude.{◌≡◌, ◌≢◌, ◌⊎◌, ℕ, zero, suc, ◌+◌, ◌<◌, ◌≤◌, cond, nat_lt}
+use Rattle.std.specs.Prelude.{Option, Some, None}
+use Rattle.map_model.specs.Map.{Map, first_from, look, put}
+use Rattle.word_layout.specs.declared.headers.HeaderWord.TheVariants as header
+use Rattle.word_layout.specs.declared.places.Part.TheVariants.{Link}
+use Rattle.word_layout.specs.Words.{Header, PlaceWord, Word}
+use Rattle.index_machine.specs.declared.opening.Opening.{Opening}
+use Rattle.index_machine.specs.Execution.{Execution}
+use Rattle.index_machine.specs.Words.{word}
+use Rattle.index_machine.specs.Rows.{InBuffer, role}
+use Rattle.index_machine.specs.Conditions.{Valid}
+use Rattle.machine_readers.specs.Buffers.{rows}
+
+-- ---- lanes ----
+
+-- a lane of a group's buffer: the word that is its head, its least key, and the least key behind its range,
+-- or none where it has all greater keys
+pub record Lane : Type 0 where
+  pub group : ℕ
+  pub head : Word
+  pub low : ℕ
+  pub end : Option ℕ
+
+-- the one lane of a buffer, which has all keys
+abbrev pub buffer_lane : ℕ → Lane
+buffer_lane group =
+    record { group = group; head = Header group header.BufferHead; low = 0; end = None }
+
+-- the key stands before the end, if there is one
+abbrev pub IsBefore : ℕ → Option ℕ → Type 0
+IsBefore k None = Unit {0}
+IsBefore k (Some end) = k < end
+
+-- the key is in the lane's range
+abbrev pub IsInRange : Lane → ℕ → Type 0
+IsInRange lane k = (lane.low ≤ k) × IsBefore k lane.end
+
+-- the link word behind a row of the lane, or its head where there is no row before
+abbrev pub lane_link : Lane → ℕ → Word
+lane_link lane zero = lane.head
+lane_link lane (suc n) = PlaceWord (suc n) Link
+
+-- ---- next rows ----
+
+-- the place of a row, or 0 for none
+abbrev pub place_of_row : Option (ℕ × ℕ) → ℕ
+place_of_row None = 0
+place_of_row (Some row) = row.1
+
+-- the row, unless its key is this one or greater
+abbrev pub below : ℕ → Option (ℕ × ℕ) → Option (ℕ × ℕ)
+below end None = None
+below end (Some row) = cond (nat_lt row.0 end) (Some row) None
+
+-- the row, unless its key does not stand before the end
+abbrev pub before_end : Option ℕ → Option (ℕ × ℕ) → Option (ℕ × ℕ)
+before_end None row = row
+before_end (Some end) row = below end row
+
+-- the place of the first row before the end whose key is this one or greater, or 0
+abbrev pub link_from : Option ℕ → ℕ → Map → ℕ
+link_from end low m = place_of_row (before_end end (first_from m low))
+
+-- the place of the lane's first row among these, or 0
+abbrev pub first_row : Lane → Map → ℕ
+first_row lane m = link_from lane.end lane.low m
+
+-- the place of the lane's first row with a greater key, or 0
+abbrev pub next_row_behind : Lane → ℕ → Map → ℕ
+next_row_behind lane k m = link_from lane.end (k + 1) m
+
+-- ---- linked lanes ----
+
+-- the rows of the lane are linked from its head in the order of their keys, and all that were linked stand
+-- in the buffer
+pub record IsLinked (o : Opening) (lane : Lane) (t : Execution) : Type 0 where
+  pub head : word o t lane.head ≡ first_row lane (rows lane.group t)
+  pub links : (k place : ℕ) → role o place t ≡ InBuffer lane.group k → IsInRange lane k →
+      word o t (PlaceWord place Link) ≡ next_row_behind lane k (rows lane.group t)
+  pub standing : (k place : ℕ) → look (rows lane.group t) k ≡ Some place → IsInRange lane k →
+      role o place t ≡ InBuffer lane.group k
+
+-- the link behind this place stands before the key: it is the lane's head, or that of its row with a smaller
+-- key
+abbrev pub IsLaneLinkBefore : Opening → Lane → ℕ → ℕ → Execution → Type 0
+IsLaneLinkBefore o lane k before t =
+    (before ≡ 0)
+    ⊎ ((j : ℕ) × (role o before t ≡ InBuffer lane.group j) × IsInRange lane j × (j < k))
+
+-- between the two executions a row of this key was linked into the lane behind the place `before`, ahead of
+-- greater keys alone, and no other link of the lane was stored
+pub record LinksInto (o : Opening) (lane : Lane) (k place before : ℕ) (t later : Execution)
+    : Type 0 where
+  pub in_range : IsInRange lane k
+  pub some : place ≢ 0
+  pub new : (j : ℕ) → role o place t ≢ InBuffer lane.group j
+  pub behind : IsLaneLinkBefore o lane k before t
+  pub leads : word o t (PlaceWord place Link) ≡ word o t (lane_link lane before)
+  pub ahead : (j : ℕ) → role o (word o t (lane_link lane before)) t ≡ InBuffer lane.group j → k < j
+  pub linked : word o later (lane_link lane before) ≡ place
+  pub kept : (q : ℕ) → q ≢ before → word o later (PlaceWord q Link) ≡ word o t (PlaceWord q Link)
+  pub head : before ≢ 0 → word o later lane.head ≡ word o t lane.head
+  pub rows : rows lane.group later ≡ put (rows lane.group t) k place
+  pub row : role o place later ≡ InBuffer lane.group k
+  pub others : (q : ℕ) → place ≢ q → role o q later ≡ role o q t
+
+-- ---- the laws, over all executions ----
+
+-- a row that is linked into a linked lane takes its place there
+abbrev pub LinkedRowsTakeTheirPlace : Type 0
+LinkedRowsTakeTheirPlace =
+    (o : Opening) (lane : Lane) (k place before : ℕ) (t later : Execution) → Valid o t →
+    IsLinked o lane t → LinksInto o lane k place before t later → IsLinked o lane later
