@@ -1,13 +1,13 @@
 -- What a caller did not find stays absent until it links its row.
-use Rattle.std.proofs.Common.{◌≡◌, ℕ, ◌⊎◌, inl, inr, ⊎_elim, None, Bool, true, false}
+use Rattle.std.proofs.Common.{◌≡◌, ◌≢◌, ℕ, ◌⊎◌, inl, inr, ⊎_elim, None, Some, Bool, true, false}
 use Rattle.std.proofs.Common.{[], ◌∷◌, ◌++◌, refl, sym, ap, ◌∙◌, subst, append_assoc}
 use Rattle.index_machine.proofs.Executions.{valid_before}
 use Rattle.index_machine.specs.Conditions.{Allowed, Valid}
 use Rattle.index_machine.specs.Execution.{Execution, event}
-use Rattle.index_machine.specs.Groups.{phase}
+use Rattle.index_machine.specs.Groups.{phase, rebuild}
 use Rattle.index_machine.specs.KeyRanges.{group_of}
 use Rattle.index_machine.specs.Openings.{within}
-use Rattle.index_machine.specs.Reaching.{saw_open, stands_in}
+use Rattle.index_machine.specs.Reaching.{saw_open, saw_opened, stands_in}
 use Rattle.index_machine.specs.Rows.{InArray, InBuffer, role}
 use Rattle.index_machine.specs.Sections.{IsCaller, StaysInside}
 use Rattle.index_machine.specs.declared.events.Action.{Action}
@@ -17,12 +17,13 @@ use Rattle.index_machine.specs.declared.opening.Opening.{Opening}
 use Rattle.machine_barriers.proofs.OpenedGroups.{open_not, opened_groups_hold}
 use Rattle.machine_barriers.proofs.Reaches.{may_as}
 use Rattle.machine_buffers.proofs.OutOfUse.{group_out}
-use Rattle.machine_buffers.specs.Inserting.{ArraysWithoutValueStay, HasFinalArray}
+use Rattle.machine_buffers.specs.Inserting.{ArraysWithoutValueStay, GapsAreAbsent}
+use Rattle.machine_buffers.specs.Inserting.{GapsBehindAreAbsent, HasFinalArray}
 use Rattle.machine_buffers.specs.Inserting.{MayLinkBehindOpened, MayLinkWhereSeenOpen}
 use Rattle.machine_buffers.specs.Inserting.{IsNewKeyFor, OpenedBuffersWithoutValueStay}
 use Rattle.machine_buffers.specs.Phases.{OpenedPhasesStay}
 use Rattle.machine_readers.proofs.FromOpening.{buffer_tombstones, gaps, insert_behind, insert_open}
-use Rattle.machine_readers.proofs.FromOpening.{stay_behind, without_value}
+use Rattle.machine_readers.proofs.FromOpening.{not_found, not_found_behind, stay_behind, without_value}
 use Rattle.machine_readers.proofs.ReadSections.{saw_opened_on, stands_in_on}
 use Rattle.machine_readers.proofs.Redirects.{phase_stays}
 use Rattle.machine_readers.proofs.Roles.{IsLinkOf, array_back, row_back}
@@ -152,10 +153,53 @@ link_open o c g k is l n t valid stay later s own none seen gap =
     (back (λ z. BufferHasNone o z g k) (gap_none o T valid g k gap)) in
     subst (λ (z : Execution). IsNewKeyFor o k g z) same m
 
+-- the new group is not the old one
+behind_apart : (o : Opening) (c g f h : ℕ) (t : Execution) → IsCaller o c → Valid o t →
+    phase g t ≡ Opened f → saw_opened c f t ≡ true → rebuild h t ≡ Some f → g ≢ h
+behind_apart o c g f h t is valid at saw made same =
+    (opened_groups_hold o t valid).closed c h is (inr (f, made, saw)) f
+    (subst (λ (z : ℕ). phase z t ≡ Opened f) same at)
+
 pub link_behind_opened : MayLinkBehindOpened
-link_behind_opened o c g f h k is apart n t valid stay s at saw made behind arrays buffer gap =
+link_behind_opened o c g f h k is n t valid stay s at saw made behind arrays buffer gap =
+    let apart = behind_apart o c g f h t is (valid_before o n t valid) at saw made in
     let b = stay_behind o c g f h k is apart n t valid stay s saw made behind in
     insert_behind o c g f h k is (n ++ t) valid (saw_opened_on c f n t stay saw) b.1 b.0
+    (array_while o c g k is n t valid stay s (inr (f, at)) arrays)
+    (buffer_while o c g f k is n t valid stay s at buffer)
+    (gap_none o (n ++ t) valid h k gap)
+
+-- ---- absence ----
+
+-- the group of a key answers for it to the end of the stay, or was opened
+own_or_opened : (o : Opening) (c g k : ℕ) → IsCaller o c → (n t : Execution) → Valid o (n ++ t) →
+    StaysInside c n → stands_in c g t ≡ true → group_of o k t ≡ g →
+    (group_of o k (n ++ t) ≡ g) ⊎ ((f : ℕ) × (phase g (n ++ t) ≡ Opened f))
+own_or_opened o c g k is [] t valid stay s own = inl own
+own_or_opened o c g k is (x ∷ n) t valid stay s own =
+    let on = λ (f : ℕ) (e : phase g (n ++ t) ≡ Opened f).
+    opened_on o (n ++ t) x.by x.action c g f valid.0 is (stands_in_on c g n t stay.1 s) e in
+    ⊎_elim
+    (λ (y : group_of o k (n ++ t) ≡ g). ⊎_elim
+    (λ (z : group_of o k (event x.by x.action ∷ (n ++ t)) ≡ g). inl z)
+    (λ (z : (f : ℕ) × (phase g (n ++ t) ≡ Opened f)). inr (z.0, on z.0 z.1))
+    (answers_on o (n ++ t) x.by x.action g k valid.0 y))
+    (λ (z : (f : ℕ) × (phase g (n ++ t) ≡ Opened f)). inr (z.0, on z.0 z.1))
+    (own_or_opened o c g k is n t valid.1 stay.1 s own)
+
+pub gap_absent : GapsAreAbsent
+gap_absent o c g k is n t valid stay s own arrays unopened gap = ⊎_elim
+    (λ (y : group_of o k (n ++ t) ≡ g). not_found o (n ++ t) valid k g y unopened
+    (array_while o c g k is n t valid stay s (inl (k, own)) arrays)
+    (gap_none o (n ++ t) valid g k gap))
+    (λ (z : (f : ℕ) × (phase g (n ++ t) ≡ Opened f)). absurd (unopened z.0 z.1))
+    (own_or_opened o c g k is n t valid stay s own)
+
+pub gap_behind_absent : GapsBehindAreAbsent
+gap_behind_absent o c g f h k is n t valid stay s at saw made behind arrays buffer unopened gap =
+    let apart = behind_apart o c g f h t is (valid_before o n t valid) at saw made in
+    let b = stay_behind o c g f h k is apart n t valid stay s saw made behind in
+    not_found_behind o (n ++ t) valid k g f h b.0 unopened
     (array_while o c g k is n t valid stay s (inr (f, at)) arrays)
     (buffer_while o c g f k is n t valid stay s at buffer)
     (gap_none o (n ++ t) valid h k gap)

@@ -4,6 +4,7 @@ pub mod OutOfUse
 pub mod LinkWords
 pub mod LinkingRows
 pub mod Walkable
+pub mod LaneWalks
 pub mod Phases
 pub mod Leave
 pub mod Ranges

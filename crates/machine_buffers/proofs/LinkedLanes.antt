@@ -8,10 +8,10 @@ use Rattle.index_machine.specs.Rows.{InBuffer, role}
 use Rattle.index_machine.specs.Words.{word}
 use Rattle.index_machine.specs.declared.opening.Opening.{Opening}
 use Rattle.machine_buffers.proofs.NextRows.{HasNoneFrom, IsFirstBefore, IsGap, from_before_put}
-use Rattle.machine_buffers.proofs.NextRows.{from_behind_put, from_gap_put, from_over_gap, here_before}
+use Rattle.machine_buffers.proofs.NextRows.{from_behind_put, from_gap_put, from_over_gap, here_before, put_outside}
 use Rattle.machine_buffers.proofs.NextRows.{less_or_not, row_or_none}
 use Rattle.machine_buffers.specs.Lanes.{IsBefore, IsInRange, IsLinked, Lane}
-use Rattle.machine_buffers.specs.Lanes.{LinksInto, before_end, lane_link}
+use Rattle.machine_buffers.specs.Lanes.{KeepsLane, LinksInto, before_end, lane_link}
 use Rattle.machine_buffers.specs.Lanes.{place_of_row, link_from}
 use Rattle.machine_places.proofs.Forms.{some_is}
 use Rattle.machine_readers.specs.Buffers.{RowsAreListed, rows}
@@ -108,9 +108,6 @@ module _ (o : Opening) (lane : Lane) (k p before : ℕ) (t later : Execution)
       past : (i q : ℕ) → look m i ≡ Some q → low ≤ i → HasNoneFrom m low lane.end → k < i
       past i q e le none = behind_end lane.end i links.in_range.1 (none i q e le)
 
-  apart : (q j : ℕ) → role o q t ≡ InBuffer lane.group j → p ≢ q
-  apart q j e same = links.new j (ap (λ (y : ℕ). role o y t) same ∙ e)
-
   -- the link behind the place leads to the new row, which is the first from there on
   behind_now : word o later (lane_link lane before) ≡ link_from lane.end low (put m k p)
   behind_now =
@@ -121,10 +118,7 @@ module _ (o : Opening) (lane : Lane) (k p before : ℕ) (t later : Execution)
   -- the new one leads to what was the first
   link_of_new : word o later (PlaceWord p Link) ≡ link_from lane.end (k + 1) (put m k p)
   link_of_new =
-      links.kept p (λ same. ⊎_elim
-      (λ (z : (before ≡ 0) × (low ≡ lane.low)). links.some (same ∙ z.0))
-      (λ (z : (j : ℕ) × (role o before t ≡ InBuffer lane.group j) × IsInRange lane j × (low ≡ j + 1)).
-      apart before z.0 z.1 same) start.3)
+      links.kept
       ∙ (links.leads ∙ (start.1
       ∙ (sym (same_from lane.end (k + 1) low m m (from_over_gap m low k rising before_key gap))
       ∙ sym (same_from lane.end (k + 1) (k + 1) (put m k p) m (from_behind_put m (k + 1) k p (omega arith))))))
@@ -152,7 +146,7 @@ module _ (o : Opening) (lane : Lane) (k p before : ℕ) (t later : Execution)
   link_of_old j q e is = dite (ℕ_discrete before q)
       (λ (z : before ≡ q). behind_row q z (some j q e) e)
       (λ (n : before ≢ q).
-      links.kept q (λ s. n (sym s))
+      links.others j q e is (λ s. n (sym s))
       ∙ (old.links j q e is
       ∙ sym (kept_from j q (listed lane.group j q e) is n)))
     where
@@ -194,7 +188,7 @@ module _ (o : Opening) (lane : Lane) (k p before : ℕ) (t later : Execution)
       ∙ (links.row ∙ ap (λ (y : ℕ). InBuffer lane.group y) (sym z)))
       (λ (n : j ≢ k).
       let there = old.standing j q (sym (look-put-else m k p j n) ∙ e) is in
-      links.others q (apart q j there) ∙ there)
+      links.stay j q there is)
 
   links_now : (j q : ℕ) → role o q later ≡ InBuffer lane.group j → IsInRange lane j →
       word o later (PlaceWord q Link) ≡ link_from lane.end (j + 1) (put m k p)
@@ -203,7 +197,7 @@ module _ (o : Opening) (lane : Lane) (k p before : ℕ) (t later : Execution)
       let same = (row_is (sym links.row ∙ (ap (λ (y : ℕ). role o y later) z ∙ e))).1 in
       ap (λ (y : ℕ). word o later (PlaceWord y Link)) (sym z)
       ∙ (link_of_new ∙ ap (λ (y : ℕ). link_from lane.end (y + 1) (put m k p)) same))
-      (λ (n : p ≢ q). link_of_old j q (sym (links.others q n) ∙ e) is)
+      (λ (n : p ≢ q). link_of_old j q (links.came j q e is n) is)
 
   pub linked_on : IsLinked o lane later
   linked_on = record {
@@ -211,4 +205,45 @@ module _ (o : Opening) (lane : Lane) (k p before : ℕ) (t later : Execution)
     links = λ j q e is. links_now j q e is ∙ ap (link_from lane.end (j + 1)) (sym links.rows);
     standing = λ j q e is.
         standing_now j q (ap (λ (y : Map). look y j) (sym links.rows) ∙ e) is;
+  }
+
+-- ---- a lane into which none is linked ----
+
+module _ (o : Opening) (lane : Lane) (t later : Execution) (rising : IsRising (rows lane.group t))
+    (old : IsLinked o lane t) (keeps : KeepsLane o lane t later) where
+  -- a link from within the range leads to what was there
+  same_link : (low : ℕ) → lane.low ≤ low →
+      link_from lane.end low (rows lane.group later) ≡ link_from lane.end low (rows lane.group t)
+  same_link low up = ⊎_elim
+      (λ (z : rows lane.group later ≡ rows lane.group t). ap (link_from lane.end low) z)
+      (λ (z : (k : ℕ) × (place : ℕ) × (IsInRange lane k → ⊥) × (look (rows lane.group t) k ≡ None)
+      × (rows lane.group later ≡ put (rows lane.group t) k place)).
+      ap (link_from lane.end low) z.4
+      ∙ put_outside (rows lane.group t) low z.0 z.1 lane.end rising z.3
+      (λ le is. z.2 (omega arith, is)))
+      keeps.rows
+
+  -- its rows stand in the buffer
+  standing_kept : (k place : ℕ) → look (rows lane.group later) k ≡ Some place → IsInRange lane k →
+      role o place later ≡ InBuffer lane.group k
+  standing_kept k place e is = ⊎_elim
+      (λ (z : rows lane.group later ≡ rows lane.group t).
+      keeps.stay k place (old.standing k place (ap (λ (m : Map). look m k) (sym z) ∙ e) is) is)
+      (λ (z : (j : ℕ) × (p : ℕ) × (IsInRange lane j → ⊥) × (look (rows lane.group t) j ≡ None)
+      × (rows lane.group later ≡ put (rows lane.group t) j p)).
+      let differ : k ≢ z.0 = λ s. z.2 (subst (IsInRange lane) s is) in
+      keeps.stay k place (old.standing k place
+      (sym (look-put-else (rows lane.group t) z.0 z.1 k differ)
+      ∙ (ap (λ (m : Map). look m k) (sym z.4) ∙ e)) is) is)
+      keeps.rows
+
+  pub linked_kept : IsLinked o lane later
+  linked_kept = record {
+    head = keeps.head ∙ (old.head ∙ sym (same_link lane.low (omega arith)));
+    links = λ k place e is.
+        let le = is.0 in
+        let there = keeps.came k place e is in
+        keeps.links k place there is
+        ∙ (old.links k place there is ∙ sym (same_link (k + 1) (omega arith)));
+    standing = standing_kept;
   }

@@ -99,11 +99,13 @@ module _ (o : Opening) (t : Execution) (b h p : ℕ) (c : Change) (before next :
       subst (λ (y : ℕ). word o (event b (LinkRow h p c y next) ∷ t) (PlaceWord (suc n) Link) ≡ p)
       e (behind_row o t b h p c (suc n) next (λ z. omega (arith, z)))
 
+  -- another place is what it was
+  role_else : (q : ℕ) → p ≢ q → role o q T ≡ role o q t
+  role_else q n = choice-other p q (InBuffer h k) (role o q t) n
+
   links : LinksInto o (buffer_lane h) k p before t T
   links = record {
     in_range = (omega arith, tt);
-    some = held_place;
-    new = λ j e. held_no_row (sym may.mine ∙ e);
     behind = ⊎_elim (λ (z : before ≡ 0). inl z)
         (λ (z : (j : ℕ) × (role o before t ≡ InBuffer h j)).
         inr (z.0, z.1, (omega arith, tt), may.behind_smaller z.0 z.1))
@@ -111,11 +113,16 @@ module _ (o : Opening) (t : Execution) (b h p : ℕ) (c : Change) (before next :
     leads = may.link_word ∙ sym expected;
     ahead = λ j e. may.ahead_greater j (ap (λ (y : ℕ). role o y t) (sym expected) ∙ e);
     linked = stored_here before refl;
-    kept = λ q n. behind_other o t b h p c before next q (λ e. n (sym e));
+    kept = behind_other o t b h p c before next p apart;
     head = λ n. head_later o t b h p c before next n;
     rows = choice-same h h (put (rows h t) k p) (rows h t) refl;
     row = choice-same p p (InBuffer h k) (role o p t) refl;
-    others = λ q n. choice-other p q (InBuffer h k) (role o q t) n;
+    others = λ j q e is n. behind_other o t b h p c before next q (λ s. n (sym s));
+    stay = λ j q e is.
+        role_else q
+        (λ s. held_no_row (sym may.mine ∙ (ap (λ (y : ℕ). role o y t) s ∙ e)))
+        ∙ e;
+    came = λ j q e is n. sym (role_else q n) ∙ e;
   }
 
   pub lane_on : IsLinked o (buffer_lane h) T

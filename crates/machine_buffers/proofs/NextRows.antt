@@ -277,3 +277,48 @@ from_over_gap (r ∷ rs) low k rising le gap = ⊎_elim
     (λ (lt : k < r.0).
     from_here r rs (k + 1) (omega arith) ∙ sym (from_here r rs low (omega arith)))
     (gap r.0 r.1 (look_first r rs))
+
+-- a row put at a key that does not stand before the end, or below where the link begins, is not met
+pub put_outside : (m : Map) (low k p : ℕ) (end : Option ℕ) → IsRising m → look m k ≡ None →
+    (low ≤ k → IsBefore k end → ⊥) → link_from end low (put m k p) ≡ link_from end low m
+put_outside m low k p end rising new out = ⊎_elim
+    (λ (lt : k < low). same end (from_behind_put m low k p lt))
+    (λ (le : low ≤ k). go end (out le) le)
+    (less_or_not k low)
+  where
+    same : (to : Option ℕ) → first_from (put m k p) low ≡ first_from m low →
+        link_from to low (put m k p) ≡ link_from to low m
+    same to e = ap (λ (f : Option (ℕ × ℕ)). place_of_row (before_end to f)) e
+
+    -- where the new one would be the first, it is behind the end, and so is what was the first
+    behind : (e : ℕ) → e ≤ k → low ≤ k → IsGap m low k →
+        (place_of_row (below e (first_from m low)) ≡ 0) →
+        link_from (Some e) low (put m k p) ≡ link_from (Some e) low m
+    behind e past le gap none =
+        ap (λ (f : Option (ℕ × ℕ)). place_of_row (below e f)) (from_gap_put m low k p rising le gap)
+        ∙ (ap place_of_row (past_end e (k, p) past) ∙ sym none)
+
+    no_row : (q : ℕ) → look m k ≡ Some q → ⊥
+    no_row q e = none_some (sym new ∙ e)
+
+    go : (to : Option ℕ) → (IsBefore k to → ⊥) → low ≤ k →
+        link_from to low (put m k p) ≡ link_from to low m
+    go None never le = absurd (never tt)
+    go (Some e) never le =
+        let past : e ≤ k = ⊎_elim (λ (lt : k < e). absurd (never lt)) (λ (z : e ≤ k). z)
+        (less_or_not k e) in
+        ⊎_elim
+        (λ (z : EndsBelow m low × (first_from m low ≡ None)).
+        behind e past le (λ i q f. inl (z.0 i q f))
+        (ap (λ (f : Option (ℕ × ℕ)). place_of_row (below e f)) z.1))
+        (λ (z : (r : ℕ × ℕ) × (first_from m low ≡ Some r) × IsFirstFrom m low r). ⊎_elim
+        (λ (lt : (z.0).0 < k). same (Some e)
+        (from_before_put m low k p (z.0).0 (z.0).1 rising (z.2).1 lt (z.2).0))
+        (λ (ge : k ≤ (z.0).0).
+        let differ : k ≢ (z.0).0 = λ s. no_row (z.0).1 (ap (look m) s ∙ (z.2).0) in
+        behind e past le (λ i q f. ⊎_elim (λ (lt : i < low). inl lt)
+        (λ (up : low ≤ i). let least = (z.2).2 i q f up in inr (omega arith)) (less_or_not i low))
+        (ap (λ (f : Option (ℕ × ℕ)). place_of_row (below e f)) z.1
+        ∙ ap place_of_row (past_end e z.0 (omega arith))))
+        (less_or_not (z.0).0 k))
+        (first_or_none m low rising)

@@ -18,7 +18,9 @@ use Rattle.index_machine.specs.declared.events.InstallWord.{InstallWord}
 use Rattle.index_machine.specs.declared.opening.Opening.{Opening}
 use Rattle.machine_barriers.proofs.OpenedGroups.{begun_back, frozen_not, gone_on, open_not}
 use Rattle.machine_barriers.proofs.OpenedGroups.{opened_back, opened_groups_hold}
-use Rattle.machine_buffers.specs.Groups.{IsOutOfUse}
+use Rattle.machine_buffers.specs.Groups.{Begins, FrozenAreChained, FrozenGroupsAnswer, IsOutOfUse}
+use Rattle.machine_buffers.specs.Groups.{NewGroupsAreOpen, NewGroupsAwait, OpenedAreNotNew}
+use Rattle.machine_buffers.specs.Groups.{OpenedGroupsAreNotNew}
 use Rattle.machine_places.proofs.Forms.{named_before, none_some, some_is}
 use Rattle.word_layout.specs.declared.phase.Phase.{Phase}
 use Rattle.word_layout.specs.declared.phase.Phase.TheVariants.{Frozen, Open, Opened}
@@ -26,7 +28,7 @@ use Rattle.word_layout.specs.declared.phase.Phase.TheVariants.{Frozen, Open, Ope
 -- ---- how groups change ----
 
 -- the group of a key after an install that has the key
-group_in : (o : Opening) (t : Execution) (b : ℕ) (spot : InstallWord) (lead low high k h : ℕ) →
+pub group_in : (o : Opening) (t : Execution) (b : ℕ) (spot : InstallWord) (lead low high k h : ℕ) →
     within low k high ≡ true → successor k t ≡ Some h →
     group_of o k (event b (Install spot lead low high) ∷ t) ≡ h
 group_in o t b spot lead low high k h is e =
@@ -61,10 +63,6 @@ phase_back o t b (StoreOpened h i) g f e = dite (ℕ_discrete h g)
 phase_back o t b d g f e = inl e
 
 -- ---- frozen groups ----
-
--- a frozen group answers for a key
-abbrev pub FrozenAreChained : Opening → Execution → Type 0
-FrozenAreChained o t = (g : ℕ) → phase g t ≡ Frozen → (k : ℕ) × (group_of o k t ≡ g)
 
 open_frozen : {X : Type 0} → Open ≡ Frozen → X
 open_frozen e = cc
@@ -105,18 +103,12 @@ chained_step o t b (Install spot lead low high) may old g e =
         opened_frozen (sym m.2 ∙ (ap (λ (y : ℕ). phase y t) is ∙ e))
 chained_step o t b d may old g e = old g e
 
-pub frozen_are_chained : (o : Opening) (t : Execution) → Valid o t → FrozenAreChained o t
+pub frozen_are_chained : FrozenGroupsAnswer
 frozen_are_chained o [] valid = λ g e. open_frozen e
 frozen_are_chained o (e ∷ t) valid =
     chained_step o t e.by e.action valid.0 (frozen_are_chained o t valid.1)
 
 -- ---- new groups ----
-
--- a key's new group is the key's group already, or is open and answers for no key yet
-abbrev pub NewGroupsAwait : Opening → Execution → Type 0
-NewGroupsAwait o t =
-    (k g : ℕ) → successor k t ≡ Some g →
-    (group_of o k t ≡ g) ⊎ (((j : ℕ) → group_of o j t ≢ g) × (phase g t ≡ Open))
 
 -- an open group stays open where no group is this one
 await_phase : (h g : ℕ) (x y : Phase) → h ≢ g → y ≡ Open → cond (h == g) x y ≡ Open
@@ -195,14 +187,10 @@ await_step o t b (Install spot lead low high) may old k g e = go (within low k h
         (old k g e)
 await_step o t b d may old k g e = old k g e
 
-pub new_groups_await : (o : Opening) (t : Execution) → Valid o t → NewGroupsAwait o t
+pub new_groups_await : NewGroupsAreOpen
 new_groups_await o [] valid = λ k g e. none_some e
 new_groups_await o (e ∷ t) valid =
     await_step o t e.by e.action valid.0 (new_groups_await o t valid.1)
-
--- an opened group is no key's new group
-abbrev pub OpenedAreNotNew : Opening → Execution → Type 0
-OpenedAreNotNew o t = (k g f : ℕ) → phase g t ≡ Opened f → successor k t ≢ Some g
 
 not_new_step : (o : Opening) (t : Execution) (b : ℕ) (d : Action) → Allowed o t b d →
     NewGroupsAwait o t → OpenedAreNotNew o t → OpenedAreNotNew o (event b d ∷ t)
@@ -227,7 +215,7 @@ not_new_step o t b (StoreOpened h i) may await old k g f e s = dite (ℕ_discret
     (λ (n : h ≢ g). old k g f (sym (choice-other h g (Opened i) (phase g t) n) ∙ e) s)
 not_new_step o t b d may await old k g f e s = old k g f e s
 
-pub opened_are_not_new : (o : Opening) (t : Execution) → Valid o t → OpenedAreNotNew o t
+pub opened_are_not_new : OpenedGroupsAreNotNew
 opened_are_not_new o [] valid = λ k g f e s. open_not e
 opened_are_not_new o (e ∷ t) valid =
     not_new_step o t e.by e.action valid.0 (new_groups_await o t valid.1)
@@ -272,10 +260,6 @@ unowned_on o t b (Install spot lead low high) g may out k z = go (within low k h
         out.unawaited k (m.3 ∙ ap Some
         (sym (group_in o t b spot lead low high k m.1 here m.3) ∙ z))
 unowned_on o t b d g may out k z = out.unowned k z
-
--- the action begins this group anew
-abbrev pub Begins : ℕ → Action → Type 0
-Begins g d = (low : ℕ) × (high : ℕ) × (f : ℕ) × (d ≡ NewGroup g low high f)
 
 unawaited_on : (o : Opening) (t : Execution) (b : ℕ) (d : Action) (g : ℕ) →
     IsOutOfUse o g t → (k : ℕ) → successor k (event b d ∷ t) ≡ Some g → Begins g d

@@ -19,9 +19,9 @@ use Rattle.index_machine.specs.declared.events.Action.TheVariants.{Freeze, NewGr
 use Rattle.index_machine.specs.declared.events.Action.TheVariants.{StoreOpened, Thaw}
 use Rattle.index_machine.specs.declared.opening.Opening.{Opening}
 use Rattle.machine_barriers.proofs.Gains.{test_is}
-use Rattle.machine_buffers.proofs.OutOfUse.{Begins, begins_or_not, out_on, replaced_out}
+use Rattle.machine_buffers.proofs.OutOfUse.{begins_or_not, out_on, replaced_out}
 use Rattle.machine_buffers.proofs.Walkable.{IsEmpty}
-use Rattle.machine_buffers.specs.Groups.{IsOutOfUse}
+use Rattle.machine_buffers.specs.Groups.{Begins, IsOutOfUse}
 use Rattle.machine_places.proofs.Forms.{not_so}
 use Rattle.machine_readers.proofs.ReadSections.{stands_in_on}
 use Rattle.word_layout.specs.declared.headers.HeaderWord.{HeaderWord}

@@ -19,15 +19,17 @@ use Rattle.index_machine.specs.declared.events.InstallWord.{InstallWord}
 use Rattle.index_machine.specs.declared.opening.Opening.{Opening}
 use Rattle.machine_barriers.proofs.OpenedGroups.{opened_groups_hold}
 use Rattle.machine_barriers.proofs.Reaches.{may_as}
-use Rattle.machine_buffers.proofs.OutOfUse.{Begins, begins_or_not, out_on, replaced_out}
-use Rattle.machine_buffers.specs.Groups.{HasInRange, IsOutOfUse}
-use Rattle.machine_buffers.specs.Walks.{RowsAreInRange}
-use Rattle.machine_places.proofs.Forms.{still_named}
+use Rattle.machine_buffers.proofs.OutOfUse.{begins_or_not, group_in, group_out, new_groups_await}
+use Rattle.machine_buffers.proofs.OutOfUse.{out_on, replaced_out}
+use Rattle.machine_buffers.specs.Groups.{Begins, HasInRange, IsOutOfUse}
+use Rattle.machine_buffers.specs.Walks.{RowsAreInRange, RowsAreOfTheirStretch}
+use Rattle.machine_readers.proofs.InstalledRedirects.{remembered_back}
+use Rattle.machine_places.proofs.Forms.{none_some, some_is, still_named}
 use Rattle.machine_readers.proofs.AwaitedGroups.{belongs_on}
 use Rattle.machine_readers.proofs.Roles.{IsLinkOf, row_back}
 use Rattle.machine_readers.proofs.StandingCallers.{groups_before_are_opened}
 use Rattle.word_layout.specs.declared.phase.Phase.{Phase}
-use Rattle.word_layout.specs.declared.phase.Phase.TheVariants.{Opened}
+use Rattle.word_layout.specs.declared.phase.Phase.TheVariants.{Open, Opened}
 
 -- the key is in the group's range, or the group is out of use
 abbrev pub IsKept : Opening → ℕ → ℕ → Execution → Type 0
@@ -140,3 +142,74 @@ in_range o (x ∷ t) valid g k q e = ⊎_elim
     (in_range o t valid.1 g k q there))
     (λ (is : IsLinkOf g q k x.action). inl (linked_in_range o t x.by g q k x.action valid.0 is))
     (row_back o t x.by x.action q g k e)
+
+-- ---- groups in the chain ----
+
+-- the group before answers for no key any more
+abbrev pub GroupsBeforeAreUnowned : Opening → Execution → Type 0
+GroupsBeforeAreUnowned o t =
+    (k g : ℕ) → predecessor o k t ≡ Some g → (j : ℕ) → group_of o j t ≢ g
+
+opened_open : {X : Type 0} {f : ℕ} → Opened f ≡ Open → X
+opened_open e = cc
+
+unowned_install : (o : Opening) (t : Execution) (b : ℕ) (spot : InstallWord) (lead low high : ℕ) →
+    Valid o t → Allowed o t b (Install spot lead low high) → GroupsBeforeAreUnowned o t →
+    GroupsBeforeAreUnowned o (event b (Install spot lead low high) ∷ t)
+unowned_install o t b spot lead low high valid may old k g e j z =
+    at (within low k high) refl (within low j high) refl
+  where
+    T : Execution
+    T = event b (Install spot lead low high) ∷ t
+
+    -- a group that comes into the chain is open
+    new_one : within low j high ≡ true → (f : ℕ) → phase g t ≡ Opened f → ⊥
+    new_one here f opened =
+        let m = may.opened j here in
+        let same : m.1 ≡ g = sym (group_in o t b spot lead low high j m.1 here m.3) ∙ z in
+        opened_open (sym opened ∙ (ap (λ (y : ℕ). phase y t) (sym same) ∙ m.5))
+
+    before : (w : Bool) → within low k high ≡ w →
+        cond w (Some (group_of o k t)) (predecessor o k t) ≡ Some g
+    before w x =
+        sym (ap (λ (i : Bool). cond i (Some (group_of o k t)) (predecessor o k t)) x) ∙ e
+
+    at : (w : Bool) → within low k high ≡ w → (v : Bool) → within low j high ≡ v → ⊥
+    at false x false y =
+        old k g (before false x) j (sym (group_out o t b spot lead low high j y) ∙ z)
+    at false x true y =
+        let p = groups_before_are_opened o t valid k g (before false x) in new_one y p.0 p.1
+    at true x true y =
+        let m = may.opened k x in
+        new_one y m.0 (ap (λ (i : ℕ). phase i t) (sym (some_is (before true x))) ∙ m.2)
+    at true x false y =
+        let both = may.whole j k (sym (group_out o t b spot lead low high j y)
+        ∙ (z ∙ sym (some_is (before true x)))) in
+        let bad : false ≡ true = sym y ∙ (both ∙ x) in cc
+
+unowned_step : (o : Opening) (t : Execution) (b : ℕ) (d : Action) → Valid o t → Allowed o t b d →
+    GroupsBeforeAreUnowned o t → GroupsBeforeAreUnowned o (event b d ∷ t)
+unowned_step o t b (Install spot lead low high) valid may old k g e j z =
+    unowned_install o t b spot lead low high valid may old k g e j z
+unowned_step o t b (NewGroup n low high i) valid may old k g e j z =
+    old k g (remembered_back t b n low high i g (predecessor o k t) e).0 j z
+unowned_step o t b d valid may old k g e j z = old k g e j z
+
+groups_before_are_unowned : (o : Opening) (t : Execution) → Valid o t → GroupsBeforeAreUnowned o t
+groups_before_are_unowned o [] valid = λ k g e. none_some e
+groups_before_are_unowned o (e ∷ t) valid =
+    unowned_step o t e.by e.action valid.1 valid.0 (groups_before_are_unowned o t valid.1)
+
+pub in_stretch : RowsAreOfTheirStretch
+in_stretch o t valid g j k q own e = ⊎_elim
+    (λ (of : HasInRange o g k t). ⊎_elim
+    (λ (x : IsBufferFor o k g t). ⊎_elim
+    (λ (y : group_of o k t ≡ g). y)
+    (λ (y : (f : ℕ) × (phase (group_of o k t) t ≡ Opened f) × (successor k t ≡ Some g)).
+    ⊎_elim (λ (z : group_of o k t ≡ g). z)
+    (λ (z : ((i : ℕ) → group_of o i t ≢ g) × (phase g t ≡ Open)). absurd (z.0 j own))
+    (new_groups_await o t valid k g y.2)) x)
+    (λ (x : predecessor o k t ≡ Some g).
+    absurd (groups_before_are_unowned o t valid k g x j own)) of)
+    (λ (out : IsOutOfUse o g t). absurd (out.unowned j own))
+    (in_range o t valid g k q e)

@@ -24,10 +24,10 @@ use Rattle.machine_buffers.proofs.LinkWords.{LinksBehind, StoresHead, head_stays
 use Rattle.machine_buffers.proofs.LinkedLanes.{row_is}
 use Rattle.machine_buffers.proofs.LinkingRows.{BuffersHold, lane_on, places_here, row_place}
 use Rattle.machine_buffers.proofs.NextRows.{none_in_empty}
-use Rattle.machine_buffers.proofs.OutOfUse.{Begins, begins_or_not, out_on, replaced_out}
-use Rattle.machine_buffers.specs.Groups.{IsOutOfUse}
+use Rattle.machine_buffers.proofs.OutOfUse.{begins_or_not, out_on, replaced_out}
+use Rattle.machine_buffers.specs.Groups.{Begins, IsOutOfUse}
 use Rattle.machine_buffers.specs.Lanes.{buffer_lane, next_row_behind, link_from}
-use Rattle.machine_buffers.specs.Walks.{IsWalkable, LinksLeadOn}
+use Rattle.machine_buffers.specs.Walks.{IsWalkable, LinksLeadOn, TakesApart}
 use Rattle.machine_readers.proofs.Roles.{EndsRole, IsLinkOf, role_stays, row_back}
 use Rattle.machine_readers.specs.Buffers.{rows}
 use Rattle.map_model.proofs.Pairs.{rising-put}
@@ -88,10 +88,11 @@ begun_walkable o t b g low high f may = record {
 abbrev pub IsEmpty : Opening → ℕ → Execution → Type 0
 IsEmpty o g t = (c : ℕ) → IsCaller o c → stands_in c g t ≡ true → ⊥
 
--- the buffer is walkable after the action, or its group is out of use then, and was empty before
+-- the buffer is walkable after the action, or this takes it apart; then its group is out of use, and was empty
 abbrev pub StaysWalkable : Opening → Execution → ℕ → Action → ℕ → Type 0
 StaysWalkable o t b d g =
-    IsWalkable o g (event b d ∷ t) ⊎ (IsOutOfUse o g (event b d ∷ t) × IsEmpty o g t)
+    IsWalkable o g (event b d ∷ t)
+    ⊎ (IsOutOfUse o g (event b d ∷ t) × IsEmpty o g t × TakesApart o g d t)
 
 -- the buffer stays walkable where its rows are those that were there, and stay
 walk_kept : (o : Opening) (t : Execution) (b : ℕ) (d : Action) (g : ℕ) → Valid o t →
@@ -110,7 +111,7 @@ walk_kept o t b d g valid may same w apart stay = ⊎_elim
     absurd (apart y.0 y.2 y.1 y.3))
     (λ (y : (value : ℕ) × (d ≡ StoreHeader g header.BufferHead value)).
     let r = refilled y.0 y.1 in
-    inr (out_on o t b d g valid may r.0 (λ s. let bad = sym y.1 ∙ s.3 in cc), r.1)) z)
+    inr (out_on o t b d g valid may r.0 (λ s. let bad = sym y.1 ∙ s.3 in cc), r.1, inr y)) z)
     (head_stays o t b d g)
   where
     refilled : (value : ℕ) → d ≡ StoreHeader g header.BufferHead value →
@@ -166,6 +167,7 @@ walk_retire o t b q next valid may g w =
       out_on o t b (Retire q next) g valid may (replaced_out o t g valid r)
           (λ s. let bad = s.3 in cc),
       (r.2 g r.1).empty,
+      inl (m.1, q, next, refl, m.2 ∙ ap (λ (y : ℕ). InBuffer y m.1) z),
     ))
     (λ (n : m.0 ≢ g). walk_kept o t b (Retire q next) g valid may refl w
     (λ p next c e. let bad = e in cc)
@@ -216,7 +218,7 @@ walk_step : (o : Opening) (t : Execution) (b : ℕ) (d : Action) → Valid o t �
     IsWalkable o g (event b d ∷ t) ⊎ IsOutOfUse o g (event b d ∷ t)
 walk_step o t b d valid may old g = ⊎_elim
     (λ (w : IsWalkable o g t). ⊎_elim (λ (z : IsWalkable o g (event b d ∷ t)). inl z)
-    (λ (z : IsOutOfUse o g (event b d ∷ t) × IsEmpty o g t). inr z.0)
+    (λ (z : IsOutOfUse o g (event b d ∷ t) × IsEmpty o g t × TakesApart o g d t). inr z.0)
     (walk_on o t b d valid may old g w))
     (λ (out : IsOutOfUse o g t). ⊎_elim
     (λ (z : Begins g d). inl (subst (λ (y : Action). IsWalkable o g (event b y ∷ t)) (sym z.3)

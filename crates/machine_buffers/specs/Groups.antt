@@ -1,8 +1,13 @@
--- Which keys are of a group, and which groups are out of use: their rows are taken out and their headers
--- refilled.
+-- Which keys are of a group, which groups are out of use, so that their rows may be taken out and their
+-- headers refilled; and what the phases of groups say of both.
 use Rattle.std.specs.Prelude.{◌≡◌, ◌≢◌, ◌⊎◌, ℕ, Some}
 use Rattle.index_machine.specs.declared.opening.Opening.{Opening}
 use Rattle.index_machine.specs.Execution.{Execution}
+use Rattle.index_machine.specs.declared.events.Action.{Action}
+use Rattle.index_machine.specs.declared.events.Action.TheVariants.{NewGroup}
+use Rattle.index_machine.specs.Groups.{phase}
+use Rattle.index_machine.specs.Conditions.{Valid}
+use Rattle.word_layout.specs.declared.phase.Phase.TheVariants.{Frozen, Open, Opened}
 use Rattle.index_machine.specs.KeyRanges.{group_of, predecessor, successor}
 use Rattle.index_machine.specs.Permissions.{IsBufferFor}
 use Rattle.index_machine.specs.RebuildConditions.{IsSettled}
@@ -23,3 +28,39 @@ pub record IsOutOfUse (o : Opening) (group : ℕ) (t : Execution) : Type 0 where
 -- before the last install
 abbrev pub HasInRange : Opening → ℕ → ℕ → Execution → Type 0
 HasInRange o group k t = IsBufferFor o k group t ⊎ (predecessor o k t ≡ Some group)
+
+-- the action begins this group anew
+abbrev pub Begins : ℕ → Action → Type 0
+Begins group action =
+    (low : ℕ) × (high : ℕ) × (first : ℕ) × (action ≡ NewGroup group low high first)
+
+-- ---- phases ----
+
+-- a frozen group answers for a key
+abbrev pub FrozenAreChained : Opening → Execution → Type 0
+FrozenAreChained o t = (group : ℕ) → phase group t ≡ Frozen → (k : ℕ) × (group_of o k t ≡ group)
+
+-- a key's new group is the key's group already, or is open and answers for no key yet
+abbrev pub NewGroupsAwait : Opening → Execution → Type 0
+NewGroupsAwait o t =
+    (k group : ℕ) → successor k t ≡ Some group →
+    (group_of o k t ≡ group) ⊎ (((j : ℕ) → group_of o j t ≢ group) × (phase group t ≡ Open))
+
+-- an opened group is no key's new group
+abbrev pub OpenedAreNotNew : Opening → Execution → Type 0
+OpenedAreNotNew o t =
+    (k group first : ℕ) → phase group t ≡ Opened first → successor k t ≢ Some group
+
+-- ---- the laws, over all executions ----
+
+-- each frozen group answers for a key
+abbrev pub FrozenGroupsAnswer : Type 0
+FrozenGroupsAnswer = (o : Opening) (t : Execution) → Valid o t → FrozenAreChained o t
+
+-- each new group that is not in the chain yet is open
+abbrev pub NewGroupsAreOpen : Type 0
+NewGroupsAreOpen = (o : Opening) (t : Execution) → Valid o t → NewGroupsAwait o t
+
+-- no opened group is a new one
+abbrev pub OpenedGroupsAreNotNew : Type 0
+OpenedGroupsAreNotNew = (o : Opening) (t : Execution) → Valid o t → OpenedAreNotNew o t

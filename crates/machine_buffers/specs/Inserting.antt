@@ -1,5 +1,6 @@
--- When a caller may link a new row: what it did not find stays absent until its row is linked.
-use Rattle.std.specs.Prelude.{◌≡◌, ◌≢◌, ◌⊎◌, ℕ, true, Some, None, ◌++◌}
+-- What a caller that did not find a key may conclude: the key was not in the map as the link was loaded
+-- that decided, and may be inserted as long as it has no row.
+use Rattle.std.specs.Prelude.{◌≡◌, ◌⊎◌, ℕ, true, Some, None, ◌++◌}
 use Rattle.map_model.specs.Map.{look}
 use Rattle.word_layout.specs.declared.phase.Phase.TheVariants.{Opened}
 use Rattle.index_machine.specs.declared.opening.Opening.{Opening}
@@ -8,11 +9,11 @@ use Rattle.index_machine.specs.Sections.{IsCaller, StaysInside}
 use Rattle.index_machine.specs.Groups.{phase, rebuild}
 use Rattle.index_machine.specs.KeyRanges.{group_of}
 use Rattle.index_machine.specs.LivePlaces.{live_place}
-use Rattle.index_machine.specs.Permissions.{IsBufferFor}
+use Rattle.index_machine.specs.Permissions.{IsBufferFor, IsUnopened}
 use Rattle.index_machine.specs.Reaching.{saw_open, saw_opened, stands_in}
 use Rattle.index_machine.specs.Conditions.{Valid}
 use Rattle.machine_readers.specs.Buffers.{rows}
-use Rattle.machine_readers.specs.Readers.{ArrayHasNone, BufferHasNone}
+use Rattle.machine_readers.specs.Readers.{ArrayHasNone, BufferHasNone, IsAbsent}
 use Rattle.machine_readers.specs.Redirects.{IsBehind}
 
 -- the array of the group gets no new places: it answers for a key, or was opened to a rebuild
@@ -26,7 +27,7 @@ IsNewKeyFor o k group t = IsBufferFor o k group t × (live_place o k t ≡ None)
 
 -- ---- the laws, over all executions ----
 
--- a key that has no value in an array has none there while a caller stands in the group
+-- a key that has no value in a final array has none there while a caller stands in the group
 abbrev pub ArraysWithoutValueStay : Type 0
 ArraysWithoutValueStay =
     (o : Opening) (caller group k : ℕ) → IsCaller o caller → (newer t : Execution) →
@@ -56,9 +57,29 @@ MayLinkWhereSeenOpen =
 -- so may one that saw it opened, and found no value in it, in the buffer of the new group
 abbrev pub MayLinkBehindOpened : Type 0
 MayLinkBehindOpened =
-    (o : Opening) (caller old first new k : ℕ) → IsCaller o caller → old ≢ new →
+    (o : Opening) (caller old first new k : ℕ) → IsCaller o caller →
     (newer t : Execution) → Valid o (newer ++ t) → StaysInside caller newer →
     stands_in caller old t ≡ true → phase old t ≡ Opened first →
     saw_opened caller first t ≡ true → rebuild new t ≡ Some first →
     IsBehind o t old first new k → ArrayHasNone o t old k → BufferHasNone o t old k →
     look (rows new (newer ++ t)) k ≡ None → IsNewKeyFor o k new (newer ++ t)
+
+-- where the array of the key's group has no value for it, and the key has no row at a later moment of the
+-- stay, the key is not in the map then, unless the group was opened by that moment
+abbrev pub GapsAreAbsent : Type 0
+GapsAreAbsent =
+    (o : Opening) (caller group k : ℕ) → IsCaller o caller → (newer t : Execution) →
+    Valid o (newer ++ t) → StaysInside caller newer → stands_in caller group t ≡ true →
+    group_of o k t ≡ group → ArrayHasNone o t group k → IsUnopened group (newer ++ t) →
+    look (rows group (newer ++ t)) k ≡ None → IsAbsent o k (newer ++ t)
+
+-- so it is where the old group was opened, has no value for the key, and the new one has no row for it
+abbrev pub GapsBehindAreAbsent : Type 0
+GapsBehindAreAbsent =
+    (o : Opening) (caller old first new k : ℕ) → IsCaller o caller →
+    (newer t : Execution) → Valid o (newer ++ t) → StaysInside caller newer →
+    stands_in caller old t ≡ true → phase old t ≡ Opened first →
+    saw_opened caller first t ≡ true → rebuild new t ≡ Some first →
+    IsBehind o t old first new k → ArrayHasNone o t old k → BufferHasNone o t old k →
+    IsUnopened new (newer ++ t) → look (rows new (newer ++ t)) k ≡ None →
+    IsAbsent o k (newer ++ t)

@@ -3,7 +3,7 @@
 --
 -- The fact to remember: a lane's head leads to its first row, and each of its rows to the next one.
 use Rattle.std.specs.Prelude.{◌≡◌, ◌≢◌, ◌⊎◌, ℕ, zero, suc, ◌+◌, ◌<◌, ◌≤◌, cond, nat_lt}
-use Rattle.std.specs.Prelude.{Option, Some, None}
+use Rattle.std.specs.Prelude.{Option, Some, None, true, ◌++◌}
 use Rattle.map_model.specs.Map.{Map, first_from, look, put}
 use Rattle.word_layout.specs.declared.headers.HeaderWord.TheVariants as header
 use Rattle.word_layout.specs.declared.places.Part.TheVariants.{Link}
@@ -12,6 +12,8 @@ use Rattle.index_machine.specs.declared.opening.Opening.{Opening}
 use Rattle.index_machine.specs.Execution.{Execution}
 use Rattle.index_machine.specs.Words.{word}
 use Rattle.index_machine.specs.Rows.{InBuffer, role}
+use Rattle.index_machine.specs.Sections.{IsCaller, StaysInside}
+use Rattle.index_machine.specs.Reaching.{stands_in}
 use Rattle.index_machine.specs.Conditions.{Valid}
 use Rattle.machine_readers.specs.Buffers.{rows}
 
@@ -91,27 +93,102 @@ IsLaneLinkBefore o lane k before t =
     (before ≡ 0)
     ⊎ ((j : ℕ) × (role o before t ≡ InBuffer lane.group j) × IsInRange lane j × (j < k))
 
--- between the two executions a row of this key was linked into the lane behind the place `before`, ahead of
--- greater keys alone, and no other link of the lane was stored
+-- a link of the lane: its head, or that of one of its rows
+abbrev pub IsLaneLink : Opening → Lane → ℕ → Execution → Type 0
+IsLaneLink o lane before t =
+    (before ≡ 0)
+    ⊎ ((j : ℕ) × (role o before t ≡ InBuffer lane.group j) × IsInRange lane j)
+
+-- what a link that leads to this place says of a key in the lane's range
+pub record LaneDecides (o : Opening) (lane : Lane) (k place : ℕ) (t : Execution) : Type 0 where
+  -- no row, or one with a greater key: the key has none
+  pub none : place ≡ 0 → look (rows lane.group t) k ≡ None
+  pub greater : (j : ℕ) → role o place t ≡ InBuffer lane.group j → k < j →
+      look (rows lane.group t) k ≡ None
+  -- the row of the key
+  pub found : role o place t ≡ InBuffer lane.group k → look (rows lane.group t) k ≡ Some place
+  -- a row with a smaller key: its link stands before the key
+  pub smaller : (j : ℕ) → role o place t ≡ InBuffer lane.group j → j < k →
+      IsLaneLinkBefore o lane k place t
+
+-- ---- what is done to a lane ----
+
+-- from the one execution to the other a row of this key was linked into the lane behind the place `before`,
+-- ahead of greater keys alone; the lane's other rows and links are as they were
 pub record LinksInto (o : Opening) (lane : Lane) (k place before : ℕ) (t later : Execution)
     : Type 0 where
   pub in_range : IsInRange lane k
-  pub some : place ≢ 0
-  pub new : (j : ℕ) → role o place t ≢ InBuffer lane.group j
   pub behind : IsLaneLinkBefore o lane k before t
   pub leads : word o t (PlaceWord place Link) ≡ word o t (lane_link lane before)
   pub ahead : (j : ℕ) → role o (word o t (lane_link lane before)) t ≡ InBuffer lane.group j → k < j
   pub linked : word o later (lane_link lane before) ≡ place
-  pub kept : (q : ℕ) → q ≢ before → word o later (PlaceWord q Link) ≡ word o t (PlaceWord q Link)
+  pub kept : word o later (PlaceWord place Link) ≡ word o t (PlaceWord place Link)
   pub head : before ≢ 0 → word o later lane.head ≡ word o t lane.head
   pub rows : rows lane.group later ≡ put (rows lane.group t) k place
   pub row : role o place later ≡ InBuffer lane.group k
-  pub others : (q : ℕ) → place ≢ q → role o q later ≡ role o q t
+  pub others : (j q : ℕ) → role o q t ≡ InBuffer lane.group j → IsInRange lane j → q ≢ before →
+      word o later (PlaceWord q Link) ≡ word o t (PlaceWord q Link)
+  pub stay : (j q : ℕ) → role o q t ≡ InBuffer lane.group j → IsInRange lane j →
+      role o q later ≡ InBuffer lane.group j
+  pub came : (j q : ℕ) → role o q later ≡ InBuffer lane.group j → IsInRange lane j → place ≢ q →
+      role o q t ≡ InBuffer lane.group j
 
--- ---- the laws, over all executions ----
+-- no row was linked into the lane: the group's rows are those that were there, or one more whose key is out
+-- of the lane's range; and its head, its rows and their links are as they were
+pub record KeepsLane (o : Opening) (lane : Lane) (t later : Execution) : Type 0 where
+  pub head : word o later lane.head ≡ word o t lane.head
+  pub links : (j q : ℕ) → role o q t ≡ InBuffer lane.group j → IsInRange lane j →
+      word o later (PlaceWord q Link) ≡ word o t (PlaceWord q Link)
+  pub stay : (j q : ℕ) → role o q t ≡ InBuffer lane.group j → IsInRange lane j →
+      role o q later ≡ InBuffer lane.group j
+  pub came : (j q : ℕ) → role o q later ≡ InBuffer lane.group j → IsInRange lane j →
+      role o q t ≡ InBuffer lane.group j
+  pub rows : (rows lane.group later ≡ rows lane.group t)
+      ⊎ ((k : ℕ) × (place : ℕ) × (IsInRange lane k → ⊥) × (look (rows lane.group t) k ≡ None)
+      × (rows lane.group later ≡ put (rows lane.group t) k place))
+
+-- ---- the laws of lanes, over all executions ----
 
 -- a row that is linked into a linked lane takes its place there
 abbrev pub LinkedRowsTakeTheirPlace : Type 0
 LinkedRowsTakeTheirPlace =
     (o : Opening) (lane : Lane) (k place before : ℕ) (t later : Execution) → Valid o t →
     IsLinked o lane t → LinksInto o lane k place before t later → IsLinked o lane later
+
+-- a lane into which none is linked stays linked, whatever is linked into other lanes of the group
+abbrev pub OtherLanesStayLinked : Type 0
+OtherLanesStayLinked =
+    (o : Opening) (lane : Lane) (t later : Execution) → Valid o t → IsLinked o lane t →
+    KeepsLane o lane t later → IsLinked o lane later
+
+-- what a link of a linked lane leads to is a row of it, or none
+abbrev pub LaneLinksLeadIntoTheLane : Type 0
+LaneLinksLeadIntoTheLane =
+    (o : Opening) (lane : Lane) (before : ℕ) (t : Execution) → Valid o t → IsLinked o lane t →
+    IsLaneLink o lane before t → IsLaneLink o lane (word o t (lane_link lane before)) t
+
+-- it decides of a key that it stands before, unless it leads to a smaller one
+abbrev pub LaneLinksDecide : Type 0
+LaneLinksDecide =
+    (o : Opening) (lane : Lane) (k before : ℕ) (t : Execution) → Valid o t → IsLinked o lane t →
+    IsInRange lane k → IsLaneLinkBefore o lane k before t →
+    LaneDecides o lane k (word o t (lane_link lane before)) t
+
+-- the row behind another one has a greater key
+abbrev pub LaneLinksRise : Type 0
+LaneLinksRise =
+    (o : Opening) (lane : Lane) (place i j : ℕ) (t : Execution) → Valid o t → IsLinked o lane t →
+    role o place t ≡ InBuffer lane.group i → IsInRange lane i →
+    role o (word o t (PlaceWord place Link)) t ≡ InBuffer lane.group j → i < j
+
+-- what a link led to does not come back once it was left, while a caller stands in the group: where a link
+-- leads as it did before, it led there all the time
+abbrev pub LeftLaneLinksDoNotComeBack : Type 0
+LeftLaneLinksDoNotComeBack =
+    (o : Opening) (lane : Lane) (caller before : ℕ) → IsCaller o caller →
+    (later newer t : Execution) → Valid o (later ++ (newer ++ t)) → StaysInside caller newer →
+    StaysInside caller later → stands_in caller lane.group t ≡ true → IsLinked o lane t →
+    IsLinked o lane (newer ++ t) → IsLinked o lane (later ++ (newer ++ t)) →
+    IsLaneLink o lane before t →
+    word o (later ++ (newer ++ t)) (lane_link lane before) ≡ word o t (lane_link lane before) →
+    word o (newer ++ t) (lane_link lane before) ≡ word o t (lane_link lane before)

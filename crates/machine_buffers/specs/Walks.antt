@@ -2,7 +2,7 @@
 --
 -- The fact to remember: a link before a key that leads to no row, or to one with a greater key, says
 -- that the key had no row when the link was loaded.
-use Rattle.std.specs.Prelude.{◌≡◌, ◌⊎◌, ℕ, ◌<◌, true, Some, None, ◌++◌}
+use Rattle.std.specs.Prelude.{◌≡◌, ◌⊎◌, ℕ, ◌<◌, true, Some, None, [], ◌∷◌, ◌++◌}
 use Rattle.map_model.specs.Map.{IsRising, look}
 use Rattle.word_layout.specs.declared.headers.HeaderWord.TheVariants as header
 use Rattle.word_layout.specs.declared.places.Part.TheVariants as part
@@ -12,19 +12,21 @@ use Rattle.index_machine.specs.Execution.{Execution}
 use Rattle.index_machine.specs.Words.{word, link_behind}
 use Rattle.index_machine.specs.Sections.{IsCaller, StaysInside}
 use Rattle.index_machine.specs.Rows.{InBuffer, role}
-use Rattle.index_machine.specs.KeyRanges.{predecessor}
+use Rattle.index_machine.specs.declared.events.Action.{Action}
+use Rattle.index_machine.specs.declared.events.Action.TheVariants.{Retire, StoreHeader}
+use Rattle.index_machine.specs.KeyRanges.{group_of, predecessor}
 use Rattle.index_machine.specs.Permissions.{IsReplaced}
 use Rattle.index_machine.specs.Reaching.{stands_in}
 use Rattle.index_machine.specs.RecordConditions.{IsLinkInto}
 use Rattle.index_machine.specs.Conditions.{Valid}
 use Rattle.machine_readers.specs.Buffers.{rows}
-use Rattle.machine_buffers.specs.Lanes.{IsInRange, IsLaneLinkBefore, IsLinked, Lane, buffer_lane}
-use Rattle.machine_buffers.specs.Lanes.{first_row, lane_link, next_row_behind}
-use Rattle.machine_buffers.specs.Groups.{Answers, HasInRange, IsOutOfUse}
+use Rattle.machine_buffers.specs.Lanes.{IsLinked, buffer_lane, first_row, next_row_behind}
+use Rattle.machine_buffers.specs.Groups.{Answers, Begins, HasInRange, IsOutOfUse}
 
 -- ---- rows ----
 
--- the link of a row leads to the row with the next key, or to none
+-- the link of a row leads to the row with the next key among those linked since the group was begun, or to
+-- none
 abbrev pub LinksLeadOn : Opening → Execution → Type 0
 LinksLeadOn o t =
     (group k place : ℕ) → role o place t ≡ InBuffer group k →
@@ -37,6 +39,24 @@ pub record IsWalkable (o : Opening) (group : ℕ) (t : Execution) : Type 0 where
       ≡ first_row (buffer_lane group) (rows group t)
   pub standing : (k place : ℕ) → look (rows group t) k ≡ Some place →
       role o place t ≡ InBuffer group k
+
+-- the action takes a row out of the buffer, or refills its head
+abbrev pub TakesApart : Opening → ℕ → Action → Execution → Type 0
+TakesApart o group action t =
+    ((k : ℕ) × (place : ℕ) × (next : ℕ) × (action ≡ Retire place next)
+    × (role o place t ≡ InBuffer group k))
+    ⊎ ((value : ℕ) × (action ≡ StoreHeader group header.BufferHead value))
+
+-- none of the newer events takes the buffer apart
+abbrev pub IsLeftWhole : Opening → ℕ → Execution → Execution → Type 0
+IsLeftWhole o group [] t = Unit {0}
+IsLeftWhole o group (e ∷ newer) t =
+    (TakesApart o group e.action (newer ++ t) → ⊥) × IsLeftWhole o group newer t
+
+-- none of these events begins the group anew
+abbrev pub BeginsNever : ℕ → Execution → Type 0
+BeginsNever group [] = Unit {0}
+BeginsNever group (e ∷ newer) = (Begins group e.action → ⊥) × BeginsNever group newer
 
 -- ---- links ----
 
@@ -75,7 +95,20 @@ RowsAreInRange =
     (o : Opening) (t : Execution) → Valid o t → (group k place : ℕ) →
     role o place t ≡ InBuffer group k → HasInRange o group k t ⊎ IsOutOfUse o group t
 
--- a row that was linked stays among the rows while a caller stands in the group: rows are only added
+-- of a group that answers for a key, each row is of a key for which it answers
+abbrev pub RowsAreOfTheirStretch : Type 0
+RowsAreOfTheirStretch =
+    (o : Opening) (t : Execution) → Valid o t → (group j k place : ℕ) → group_of o j t ≡ group →
+    role o place t ≡ InBuffer group k → group_of o k t ≡ group
+
+-- rows are only added, until the group is begun anew
+abbrev pub LinkedRowsStayUntilBegun : Type 0
+LinkedRowsStayUntilBegun =
+    (o : Opening) (group k place : ℕ) (newer t : Execution) → Valid o (newer ++ t) →
+    BeginsNever group newer → look (rows group t) k ≡ Some place →
+    look (rows group (newer ++ t)) k ≡ Some place
+
+-- so they are while a caller stands in the group
 abbrev pub LinkedRowsStay : Type 0
 LinkedRowsStay =
     (o : Opening) (caller group k place : ℕ) → IsCaller o caller → (newer t : Execution) →
@@ -97,7 +130,7 @@ BuffersBeforeAreWalkable =
     (o : Opening) (t : Execution) → Valid o t → (caller group k : ℕ) → IsCaller o caller →
     stands_in caller group t ≡ true → predecessor o k t ≡ Some group → IsWalkable o group t
 
--- and for the keeper it is so until all groups of its rebuild are gone
+-- and for the keeper it is so until all old groups of its rebuild are gone
 abbrev pub OldBuffersAreWalkable : Type 0
 OldBuffersAreWalkable =
     (o : Opening) (t : Execution) → Valid o t → (group k : ℕ) → predecessor o k t ≡ Some group →
@@ -110,6 +143,18 @@ WalkableBuffersStay =
     Valid o (newer ++ t) → StaysInside caller newer → stands_in caller group t ≡ true →
     IsWalkable o group t → IsWalkable o group (newer ++ t)
 
+-- each buffer is walkable, or its group is out of use
+abbrev pub BuffersAreWalkableOrOutOfUse : Type 0
+BuffersAreWalkableOrOutOfUse =
+    (o : Opening) (t : Execution) → Valid o t → (group : ℕ) →
+    IsWalkable o group t ⊎ IsOutOfUse o group t
+
+-- and it stays so, whoever stands there, until it is taken apart
+abbrev pub WholeBuffersStayWalkable : Type 0
+WholeBuffersStayWalkable =
+    (o : Opening) (group : ℕ) (newer t : Execution) → Valid o (newer ++ t) →
+    IsLeftWhole o group newer t → IsWalkable o group t → IsWalkable o group (newer ++ t)
+
 -- its one lane is linked
 abbrev pub WalkableBuffersAreLinked : Type 0
 WalkableBuffersAreLinked =
@@ -117,13 +162,6 @@ WalkableBuffersAreLinked =
     IsLinked o (buffer_lane group) t
 
 -- ---- the laws of links ----
-
--- a link of a linked lane decides of a key that it stands before, unless it leads to a smaller one
-abbrev pub LaneLinksDecide : Type 0
-LaneLinksDecide =
-    (o : Opening) (t : Execution) → Valid o t → (lane : Lane) (k before : ℕ) → IsLinked o lane t →
-    IsInRange lane k → IsLaneLinkBefore o lane k before t →
-    Decides o lane.group k (word o t (lane_link lane before)) t
 
 -- what a link of a walkable buffer leads to is a row of it, or none
 abbrev pub LinksLeadIntoTheBuffer : Type 0

@@ -1,20 +1,59 @@
 //! What holds after every valid execution. Each function is a law and does nothing.
-ghost use Rattle.machine_buffers.specs.Inserting.{ArraysWithoutValueStay, MayLinkBehindOpened};
+ghost use Rattle.machine_buffers.specs.Groups.{FrozenGroupsAnswer, NewGroupsAreOpen};
+ghost use Rattle.machine_buffers.specs.Groups.{OpenedGroupsAreNotNew};
+ghost use Rattle.machine_buffers.specs.Inserting.{ArraysWithoutValueStay, GapsAreAbsent};
+ghost use Rattle.machine_buffers.specs.Inserting.{GapsBehindAreAbsent, MayLinkBehindOpened};
 ghost use Rattle.machine_buffers.specs.Inserting.{MayLinkWhereSeenOpen};
 ghost use Rattle.machine_buffers.specs.Inserting.{OpenedBuffersWithoutValueStay};
-ghost use Rattle.machine_buffers.specs.Lanes.{LinkedRowsTakeTheirPlace};
+ghost use Rattle.machine_buffers.specs.Lanes.{LaneLinksDecide, LaneLinksLeadIntoTheLane};
+ghost use Rattle.machine_buffers.specs.Lanes.{LaneLinksRise, LeftLaneLinksDoNotComeBack};
+ghost use Rattle.machine_buffers.specs.Lanes.{LinkedRowsTakeTheirPlace, OtherLanesStayLinked};
 ghost use Rattle.machine_buffers.specs.Phases.{LeaveToInsertStays, OpenedPhasesStay};
 ghost use Rattle.machine_buffers.specs.Phases.{PhasesBeforeAreTrue};
 ghost use Rattle.machine_buffers.specs.Phases.{PhasesOfKeysAreTrue};
 ghost use Rattle.machine_buffers.specs.Phases.{TruePhasesStay};
+ghost use Rattle.machine_buffers.specs.Walks.{BuffersAreWalkableOrOutOfUse};
 ghost use Rattle.machine_buffers.specs.Walks.{BuffersBeforeAreWalkable, BuffersOfKeysAreWalkable};
-ghost use Rattle.machine_buffers.specs.Walks.{KeysOfRowsRise, LaneLinksDecide};
+ghost use Rattle.machine_buffers.specs.Walks.{KeysOfRowsRise};
 ghost use Rattle.machine_buffers.specs.Walks.{LeftLinksDoNotComeBack, LinkedRowsStay};
 ghost use Rattle.machine_buffers.specs.Walks.{LinksBeforeAKeyDecide};
 ghost use Rattle.machine_buffers.specs.Walks.{LinksBeforeAKeyStay, LinksLeadIntoTheBuffer};
 ghost use Rattle.machine_buffers.specs.Walks.{LinksLeadToTheNextRow, LinksRise};
-ghost use Rattle.machine_buffers.specs.Walks.{OldBuffersAreWalkable, RowsAreInRange};
+ghost use Rattle.machine_buffers.specs.Walks.{LinkedRowsStayUntilBegun, OldBuffersAreWalkable};
+ghost use Rattle.machine_buffers.specs.Walks.{RowsAreInRange, RowsAreOfTheirStretch};
 ghost use Rattle.machine_buffers.specs.Walks.{WalkableBuffersAreLinked, WalkableBuffersStay};
+ghost use Rattle.machine_buffers.specs.Walks.{WholeBuffersStayWalkable};
+
+/// A row that is linked into any linked lane, behind smaller keys and ahead of greater ones, takes its
+/// place there.
+pub fn linked_rows_take_their_place()
+    ensures { LinkedRowsTakeTheirPlace }
+{}
+
+/// A lane into which none is linked stays linked, whatever is linked into other lanes.
+pub fn other_lanes_stay_linked()
+    ensures { OtherLanesStayLinked }
+{}
+
+/// A link of a lane leads to a row of it, or to none.
+pub fn lane_links_lead_into_the_lane()
+    ensures { LaneLinksLeadIntoTheLane }
+{}
+
+/// A link of any linked lane decides of a key that it stands before, unless it leads to a smaller one.
+pub fn lane_links_decide()
+    ensures { LaneLinksDecide }
+{}
+
+/// The row behind another one of a lane has a greater key.
+pub fn lane_links_rise()
+    ensures { LaneLinksRise }
+{}
+
+/// Where a link of a lane leads as it did before, it led there all the time.
+pub fn left_lane_links_do_not_come_back()
+    ensures { LeftLaneLinksDoNotComeBack }
+{}
 
 /// The link of a row leads to the row with the next key among those linked into its buffer.
 pub fn links_lead_to_the_next_row()
@@ -31,9 +70,24 @@ pub fn rows_are_in_range()
     ensures { RowsAreInRange }
 {}
 
-/// Rows are only added to a buffer where a caller stands.
+/// Of a group that answers for a key, each row is of a key for which it answers.
+pub fn rows_are_of_their_stretch()
+    ensures { RowsAreOfTheirStretch }
+{}
+
+/// Rows are only added to a buffer, until its group is begun anew.
+pub fn linked_rows_stay_until_begun()
+    ensures { LinkedRowsStayUntilBegun }
+{}
+
+/// So they are where a caller stands.
 pub fn linked_rows_stay()
     ensures { LinkedRowsStay }
+{}
+
+/// Each buffer is walkable, or its group is out of use.
+pub fn buffers_are_walkable_or_out_of_use()
+    ensures { BuffersAreWalkableOrOutOfUse }
 {}
 
 /// A walk meets the rows of a group that answers for a key, or that is a key's new group: its head
@@ -47,25 +101,19 @@ pub fn buffers_before_are_walkable()
     ensures { BuffersBeforeAreWalkable }
 {}
 
-/// So it does in an old group for the keeper, until all groups of its rebuild are gone.
+/// So it does in an old group for the keeper, until all old groups of its rebuild are gone.
 pub fn old_buffers_are_walkable()
     ensures { OldBuffersAreWalkable }
+{}
+
+/// A buffer stays walkable, whoever stands there, until a row is taken out of it or its head refilled.
+pub fn whole_buffers_stay_walkable()
+    ensures { WholeBuffersStayWalkable }
 {}
 
 /// A walkable buffer is one lane, with all keys, whose rows are linked from its head.
 pub fn walkable_buffers_are_linked()
     ensures { WalkableBuffersAreLinked }
-{}
-
-/// A row that is linked into any linked lane, behind smaller keys and ahead of greater ones, takes its
-/// place there.
-pub fn linked_rows_take_their_place()
-    ensures { LinkedRowsTakeTheirPlace }
-{}
-
-/// A link of any linked lane decides of a key that it stands before, unless it leads to a smaller one.
-pub fn lane_links_decide()
-    ensures { LaneLinksDecide }
 {}
 
 /// A buffer is not taken apart, nor its head refilled, while a caller stands in the group.
@@ -98,7 +146,22 @@ pub fn links_before_a_key_stay()
     ensures { LinksBeforeAKeyStay }
 {}
 
-/// The phase word of a group that answers for a key, or that is a key's new group, says its phase.
+/// A frozen group answers for a key.
+pub fn frozen_groups_answer()
+    ensures { FrozenGroupsAnswer }
+{}
+
+/// A new group that is not in the chain yet is open.
+pub fn new_groups_are_open()
+    ensures { NewGroupsAreOpen }
+{}
+
+/// An opened group is no key's new one.
+pub fn opened_groups_are_not_new()
+    ensures { OpenedGroupsAreNotNew }
+{}
+
+/// The phase word of a group that answers for a key, or that is a key's new group, is not stale.
 pub fn phases_of_keys_are_true()
     ensures { PhasesOfKeysAreTrue }
 {}
@@ -108,7 +171,7 @@ pub fn phases_before_are_true()
     ensures { PhasesBeforeAreTrue }
 {}
 
-/// A phase word goes on to say the phase while a caller stands in the group.
+/// A phase word does not become stale while a caller stands in the group.
 pub fn true_phases_stay()
     ensures { TruePhasesStay }
 {}
@@ -123,7 +186,7 @@ pub fn leave_to_insert_stays()
     ensures { LeaveToInsertStays }
 {}
 
-/// A key without a value in the array of a group has none there while a caller stands in it.
+/// A key without a value in the final array of a group has none there while a caller stands in it.
 pub fn arrays_without_value_stay()
     ensures { ArraysWithoutValueStay }
 {}
@@ -143,4 +206,15 @@ pub fn may_link_where_seen_open()
 /// buffer of the new group, whenever the key has no row in this.
 pub fn may_link_behind_opened()
     ensures { MayLinkBehindOpened }
+{}
+
+/// A key that has no value in the array of its group, and no row at a later moment of a stay, is not in the
+/// map then, unless the group was opened.
+pub fn gaps_are_absent()
+    ensures { GapsAreAbsent }
+{}
+
+/// Nor is one that has no value in an opened group, and no row in the buffer of the new one.
+pub fn gaps_behind_are_absent()
+    ensures { GapsBehindAreAbsent }
 {}

@@ -7,9 +7,15 @@
 mod laws;
 
 pub use laws::{
-    arrays_without_value_stay, buffers_before_are_walkable, buffers_of_keys_are_walkable,
-    keys_of_rows_rise, leave_to_insert_stays, links_before_a_key_decide, links_before_a_key_stay,
-    links_lead_into_the_buffer, links_lead_to_the_next_row, may_link_behind_opened,
-    may_link_where_seen_open, opened_buffers_without_value_stay, phases_before_are_true,
-    phases_of_keys_are_true, true_phases_stay, walkable_buffers_stay,
+    arrays_without_value_stay, buffers_are_walkable_or_out_of_use, buffers_before_are_walkable,
+    buffers_of_keys_are_walkable, frozen_groups_answer, gaps_are_absent, gaps_behind_are_absent,
+    keys_of_rows_rise, lane_links_decide, lane_links_lead_into_the_lane, lane_links_rise,
+    leave_to_insert_stays, left_lane_links_do_not_come_back, left_links_do_not_come_back,
+    linked_rows_stay, linked_rows_stay_until_begun, linked_rows_take_their_place,
+    links_before_a_key_decide, links_before_a_key_stay, links_lead_into_the_buffer,
+    links_lead_to_the_next_row, links_rise, may_link_behind_opened, may_link_where_seen_open,
+    new_groups_are_open, old_buffers_are_walkable, opened_buffers_without_value_stay,
+    opened_groups_are_not_new, opened_phases_stay, other_lanes_stay_linked, phases_before_are_true,
+    phases_of_keys_are_true, rows_are_in_range, rows_are_of_their_stretch, true_phases_stay,
+    walkable_buffers_are_linked, walkable_buffers_stay, whole_buffers_stay_walkable,
 };

@@ -1,4 +1,4 @@
-use Rattle.machine_buffers.proofs.Walks.{takes_place}
+use Rattle.machine_buffers.proofs.LaneWalks.{takes_place}
 use Rattle.machine_buffers.proofs.laws.linked_rows_take_their_place.Goals as goal
 
 pub returns : goal.returns
