@@ -1,5 +1,4 @@
 //! Values of options, read from their texts.
-ghost use Rattle.std.specs.Prelude.{◌≤◌};
 ghost use Rattle.std.specs.Option.{SomeIff};
 ghost use Rattle.command_line.specs.Asked.{IsNumberFrom};
 ghost use Rattle.wire_commands.specs.Numbers.{value_of};

@@ -134,7 +134,7 @@ module _ (b : Board) (g place before next : ℕ) (h n : Hand) (can : CanSearch b
   state_kept =
       other_word b h n place Link next can.of m may.filled.held State (λ z. omega (arith, z))
 
-  pub filled_on : IsFilled (opening_of b) n.number place next (known n)
+  filled_on : IsFilled (opening_of b) n.number place next (known n)
   filled_on =
       record {
         held = still_holds b h n (StorePrivate place Link next) can.of m tt place may.filled.held;
@@ -144,7 +144,7 @@ module _ (b : Board) (g place before next : ℕ) (h n : Hand) (can : CanSearch b
         link_word = stored_word b h n place Link next can.of m may.filled.held;
       }
 
-  pub change_kept : change_of b n place ≡ change_of b h place
+  change_kept : change_of b n place ≡ change_of b h place
   change_kept i = Put (m.number i) (key_kept i) (value_kept i)
 
   ahead_on : IsBehindKey (opening_of b) g (key_in (opening_of b) place (known h)) next (known n)

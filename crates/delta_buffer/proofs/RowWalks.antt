@@ -78,7 +78,7 @@ rows_follow b g before next h k can follows =
 -- ---- a table's rows ----
 
 -- a buffer has no more rows than the table
-pub rows_fit : (o : Opening) (g n : ℕ) (t : Execution) → Valid o t → IsWalkable o g t →
+rows_fit : (o : Opening) (g n : ℕ) (t : Execution) → Valid o t → IsWalkable o g t →
     keys_below n (rows g t) ≤ (limits o).records
 rows_fit o g n t valid w =
     let all = rows-length (limits o) 0 (limits o).records in

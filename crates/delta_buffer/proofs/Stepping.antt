@@ -280,19 +280,19 @@ module _ (b : Board) (g key before next met : ℕ) (h m n : Hand)
       some_is (sym (ap role_key (same ∙ reached_row.1.0)) ∙ told)
 
   -- which is that of the key that was loaded
-  pub is_of : role (opening_of b) next (known m) ≡ InBuffer g met
+  is_of : role (opening_of b) next (known m) ≡ InBuffer g met
   is_of = reached_row.1.0 ∙ ap (InBuffer g) key_is
 
-  pub is_still_of : role (opening_of b) next (known n) ≡ InBuffer g met
+  is_still_of : role (opening_of b) next (known n) ≡ InBuffer g met
   is_still_of = same ∙ is_of
 
-  pub is_reached : IsReachedRow (opening_of b) n.number g met next (known n)
+  is_reached : IsReachedRow (opening_of b) n.number g met next (known n)
   is_reached = (
     is_still_of,
     still_reached b m n (LoadKey next met) on.search.of l tt next reached_row.1.1,
   )
 
-  pub is_at : IsAt (opening_of b) n.number next (known n)
+  is_at : IsAt (opening_of b) n.number next (known n)
   is_at = still_at b m n (LoadKey next met) on.search.of l tt next is_there
 
   -- the row of the key

@@ -1,5 +1,4 @@
 //! A row is linked where its key was not found, and is found then.
-ghost use Rattle.std.specs.Prelude.{◌≡◌};
 ghost use Rattle.index_rule.specs.Opened.{AreNewHands};
 ghost use Rattle.index_rule.specs.OwnRows.{place_of_private};
 ghost use Rattle.row_arena.specs.Visits.{IsNew};

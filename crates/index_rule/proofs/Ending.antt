@@ -120,7 +120,7 @@ pub are_of_front : (b : Board) (hs gs : List Hand) → AreOf b (hs ++ gs) → Ar
 are_of_front b [] gs all = tt
 are_of_front b (h ∷ hs) gs all = (all.0, are_of_front b hs gs all.1)
 
-pub are_of_last : (b : Board) (hs : List Hand) (h : Hand) → AreOf b (hs ++ h ∷ []) → IsHandOf b h
+are_of_last : (b : Board) (hs : List Hand) (h : Hand) → AreOf b (hs ++ h ∷ []) → IsHandOf b h
 are_of_last b [] h all = all.0
 are_of_last b (g ∷ hs) h all = are_of_last b hs h all.1
 

@@ -1,30 +1,17 @@
 -- What a hand that heeds a note still is: all that its own events alone change.
 use Rattle.std.proofs.Common.{◌≡◌, ℕ, ◌%◌, ◌++◌, sym, ap, ◌∙◌, subst}
-use Rattle.word_layout.specs.declared.places.Part.{Part}
-use Rattle.word_layout.specs.Words.{PlaceWord}
 use Rattle.index_machine.specs.Execution.{Execution, Continues}
-use Rattle.index_machine.specs.Words.{word}
-use Rattle.index_machine.specs.Sections.{IsCaller, IsKeeper, IsOutside, IsReading, crossings}
+use Rattle.index_machine.specs.Sections.{IsCaller, IsOutside, IsReading, crossings}
 use Rattle.index_machine.specs.Rows.{Holds, HoldsNone}
-use Rattle.index_machine.specs.ObservedHeads.{IsUnobserved, observed_head}
 use Rattle.index_machine.specs.Conditions.{MayEnter, MayLeave, Valid}
 use Rattle.index_machine.specs.RecordConditions.{HoldsNoLock}
-use Rattle.index_machine.proofs.Executions.{crossings_on, observed_head_on}
-use Rattle.index_machine.proofs.GracePeriods.{others_push_none, unobserved_on}
+use Rattle.index_machine.proofs.Executions.{crossings_on}
 use Rattle.index_machine.proofs.Holders.{holds_no_lock_on}
-use Rattle.index_machine.proofs.Holding.{held_words_on}
-use Rattle.index_machine.proofs.Placing.{holds_none_on, holds_on, unused-held}
+use Rattle.index_machine.proofs.Placing.{holds_none_on, holds_on}
 use Rattle.index_rule.specs.declared.board.Board.{Board}
 use Rattle.index_rule.specs.declared.hand.Hand.{Hand}
-use Rattle.index_rule.specs.declared.view.View.{View}
-use Rattle.index_rule.specs.Hands.{known, opening_of, view}
+use Rattle.index_rule.specs.Hands.{known, opening_of}
 use Rattle.index_rule.specs.Notes.{Heeds}
-
--- a hand that told a note is as it was before
-pub tells_still : (F : ℕ → Execution → Type 0) (h k : Hand) → k.number ≡ h.number →
-    view k ≡ view h → F h.number (known h) → F k.number (known k)
-tells_still F h k number same =
-    subst (λ (z : ℕ × View). F z.0 z.1.known) (λ i. (sym number i, sym same i))
 
 module _ (b : Board) (h k : Hand) (news : Execution) (m : Heeds b h news k) where
   -- what others did since
@@ -46,13 +33,13 @@ module _ (b : Board) (h k : Hand) (news : Execution) (m : Heeds b h news k) wher
 
   -- ---- its read section ----
 
-  pub heeds_crossings : crossings k.number (known k) ≡ crossings h.number (known h)
+  heeds_crossings : crossings k.number (known k) ≡ crossings h.number (known h)
   unfolding others
   heeds_crossings =
       onward (λ n t. crossings n t ≡ crossings h.number (known h))
       (crossings_on h.number others (known h) m.own.2)
 
-  pub heeds_outside : IsOutside h.number (known h) → IsOutside k.number (known k)
+  heeds_outside : IsOutside h.number (known h) → IsOutside k.number (known k)
   heeds_outside outside = ap (λ (z : ℕ). z % 2) heeds_crossings ∙ outside
 
   pub heeds_may_enter : MayEnter (opening_of b) h.number (known h) →
@@ -63,7 +50,7 @@ module _ (b : Board) (h k : Hand) (news : Execution) (m : Heeds b h news k) wher
         outside = heeds_outside may.outside;
       }
 
-  pub heeds_reading : IsReading (opening_of b) h.number (known h) →
+  heeds_reading : IsReading (opening_of b) h.number (known h) →
       IsReading (opening_of b) k.number (known k)
   heeds_reading reading =
       record {
@@ -71,7 +58,7 @@ module _ (b : Board) (h k : Hand) (news : Execution) (m : Heeds b h news k) wher
         inside = ap (λ (z : ℕ). z % 2) heeds_crossings ∙ reading.inside;
       }
 
-  pub heeds_holds_no_lock : HoldsNoLock (opening_of b) h.number (known h) →
+  heeds_holds_no_lock : HoldsNoLock (opening_of b) h.number (known h) →
       HoldsNoLock (opening_of b) k.number (known k)
   unfolding others
   heeds_holds_no_lock none =
@@ -88,12 +75,6 @@ module _ (b : Board) (h k : Hand) (news : Execution) (m : Heeds b h news k) wher
         holds_none = heeds_holds_no_lock may.holds_none;
       }
 
-  pub heeds_observed : observed_head k.number (known k) ≡ observed_head h.number (known h)
-  unfolding others
-  heeds_observed =
-      onward (λ n t. observed_head n t ≡ observed_head h.number (known h))
-      (observed_head_on h.number others (known h) m.own.2)
-
   -- ---- its rows ----
 
   pub heeds_holds : (place : ℕ) → Holds (opening_of b) h.number place (known h) →
@@ -109,25 +90,3 @@ module _ (b : Board) (h k : Hand) (news : Execution) (m : Heeds b h news k) wher
   heeds_holds_none none =
       onward (HoldsNone (opening_of b))
       (holds_none_on (opening_of b) h.number others (known h) valid_on m.own.2 none)
-
-  pub heeds_held_word : (place : ℕ) (part : Part) →
-      Holds (opening_of b) h.number place (known h) →
-      word (opening_of b) (known k) (PlaceWord place part)
-      ≡ word (opening_of b) (known h) (PlaceWord place part)
-  unfolding others
-  heeds_held_word place part held =
-      onward
-      (λ n t. word (opening_of b) t (PlaceWord place part)
-      ≡ word (opening_of b) (known h) (PlaceWord place part))
-      (held_words_on (opening_of b) h.number place others (known h) valid_on m.own.2 held part)
-
-  -- what nobody relies on, while the keeper holds it
-  pub heeds_unobserved : IsKeeper (opening_of b) h.number → (place : ℕ) →
-      Holds (opening_of b) h.number place (known h) →
-      IsUnobserved (opening_of b) place (known h) → IsUnobserved (opening_of b) place (known k)
-  unfolding others
-  heeds_unobserved keeper place held none =
-      onward (λ n t. IsUnobserved (opening_of b) place t)
-      (unobserved_on (opening_of b) place others (known h) valid_on
-      (others_push_none (opening_of b) place h.number others (known h) keeper valid_on m.own.2)
-      (λ z. unused-held (sym z ∙ held)) none)

@@ -28,10 +28,6 @@ place_of_link p q e = cc
 
 -- ---- one more link ----
 
-pub link_none : (l : Limits) (old : List ℕ) → LinksRows l 1 old old
-link_none l old =
-    record { wide = refl; linked = λ i lt. absurd (omega arith); kept = λ w is none. refl }
-
 pub link_more : (l : Limits) (many : ℕ) (old words : List ℕ) → length old ≡ word_count l →
     1 ≤ many → many < l.records → LinksRows l many old words →
     LinksRows l (many + 1) old

@@ -92,10 +92,6 @@ module _ (l : Limits) (words : List ℕ) (place : ℕ) (row : ℕ × ℕ) (state
       (λ e. none Value (λ z. cc) (sym e))
       ∙ by_name.kept words (PlaceWord place Key) w row.0 is known (λ e. none Key (λ z. cc) (sym e)))
 
-pub fill_none : (l : Limits) (rows : Map) (old : List ℕ) → FillsArray l rows 0 old old
-fill_none l rows old =
-    record { wide = refl; filled = λ i lt. absurd (omega arith); kept = λ w is none. refl }
-
 pub fill_more : (l : Limits) (rows : Map) (many : ℕ) (old words : List ℕ) →
     length old ≡ word_count l → 0 < l.groups → length rows ≤ l.group_size → many < length rows →
     FillsArray l rows many old words →
@@ -199,9 +195,6 @@ module _ (o : Opening) (old new : List ℕ) (empty : StandsFor (without_rows o) 
     (slice_set old (address_of (limits o) (Header 0 header.Size)) (length o.rows)) new) where
   group_0 : 0 < (limits o).groups
   group_0 = let groups = o.layout.kept.least_groups in omega arith
-
-  abbrev sized : List ℕ
-  sized = slice_set old (address_of (limits o) (Header 0 header.Size)) (length o.rows)
 
   -- the word is none of those that were stored for a row
   abbrev IsOfNoRow : Word → Type 0

@@ -50,7 +50,7 @@ look_more o c v moment key found goes value least old =
 -- ---- the step ----
 
 -- the seat may write a look
-pub notes : (o : Opening) (slots id : ℕ) (me : Me (Unit {0}) View) (a : ℕ) (start : View) (key : ℕ)
+notes : (o : Opening) (slots id : ℕ) (me : Me (Unit {0}) View) (a : ℕ) (start : View) (key : ℕ)
     (found : Option ℕ) (moment : Execution) → me.0.opening ≡ Some o →
     IsBetween (number me.0) start.known me.0.known moment → value_in_map o key moment ≡ found →
     least_place me.0.log ≤ length (history moment) →

@@ -1,5 +1,5 @@
 -- What a caller knows of a record after one step of its own, whatever the others did before it.
-use Rattle.std.proofs.Common.{◌≡◌, ◌≢◌, ℕ, ◌+◌, Bool, true, Some, ◌∷◌, ◌++◌, refl, sym, ap}
+use Rattle.std.proofs.Common.{◌≡◌, ◌≢◌, ℕ, ◌+◌, Bool, true, ◌∷◌, ◌++◌, refl, sym, ap}
 use Rattle.std.proofs.Common.{◌∙◌, subst}
 use mathlib.Core.Logic.{dite}
 use native.Mathlib.Decide.{ℕ_discrete}
@@ -8,10 +8,10 @@ use Rattle.word_layout.specs.State.{IsUnlockedWord, word_of_state}
 use Rattle.map_model.specs.declared.entries.Change.{Change}
 use Rattle.index_machine.specs.declared.events.Action.{Action}
 use Rattle.index_machine.specs.declared.events.Action.TheVariants.{LoadState, LoadValue, Lock}
-use Rattle.index_machine.specs.declared.events.Action.TheVariants.{FailLock, StoreValue, Unlock}
+use Rattle.index_machine.specs.declared.events.Action.TheVariants.{StoreValue, Unlock}
 use Rattle.index_machine.specs.Execution.{Execution, event}
 use Rattle.index_machine.specs.Sections.{IsReading, IsNoCrossing, StaysInside}
-use Rattle.index_machine.specs.Rows.{role, role_key}
+use Rattle.index_machine.specs.Rows.{role}
 use Rattle.index_machine.specs.Forms.{Form, Unlocked, Locked, HasValueWord, IsLockedBy}
 use Rattle.index_machine.specs.Forms.{form_after, with_lock, with_value, without_lock}
 use Rattle.index_machine.specs.Places.{first_version, form}
@@ -20,16 +20,15 @@ use Rattle.index_machine.specs.RecordConditions.{HoldsNoLock, IsAt}
 use Rattle.index_machine.specs.Conditions.{Valid}
 use Rattle.index_machine.proofs.Executions.{choice-other, choice-same}
 use Rattle.index_machine.proofs.Holders.{TakesLock}
-use Rattle.machine_readers.specs.Readers.{KeepsKey}
 use Rattle.machine_readers.proofs.FormsMet.{not_blank}
 use Rattle.machine_readers.proofs.Reached.{reached_on}
 use Rattle.machine_readers.proofs.ReadSections.{stands_in_on}
 use Rattle.index_rule.specs.declared.board.Board.{Board}
 use Rattle.index_rule.specs.declared.hand.Hand.{Hand}
 use Rattle.index_rule.specs.Hands.{IsHandOf, Makes, known, opening_of}
-use Rattle.index_rule.specs.Records.{HoldsNoOther, key_at, or_zero}
+use Rattle.index_rule.specs.Records.{HoldsNoOther}
 use Rattle.index_rule.proofs.LockWords.{locked_before, locked_before_on, locked_on}
-use Rattle.index_rule.proofs.Standing.{at_keyed, at_on, at_role, keeps_key_on, reading_on}
+use Rattle.index_rule.proofs.Standing.{at_keyed, at_on, at_role, reading_on}
 use Rattle.index_rule.proofs.Standing.{stays_inside}
 use Rattle.index_rule.proofs.StateForms.{IsFormOf, form_by_word, unlocked_by_word}
 use Rattle.index_rule.proofs.Stepping.{known_is, others_only, valid_after}
@@ -95,25 +94,12 @@ module _ (b : Board) (h k : Hand) (action : Action) (of : IsHandOf b h)
       ∙ at_role (opening_of b) h.number p since (known h) (valid_after b h k action of m)
       (goes_on_inside none) at
 
-  pub same_key : IsNoCrossing action → (p : ℕ) → IsAt (opening_of b) h.number p (known h) →
-      key_at (opening_of b) p (known k) ≡ key_at (opening_of b) p (known h)
-  same_key none p at =
-      ap (λ z. or_zero (role_key z)) (same_role none p at)
-
   -- it stood there at the moment of the step
   pub at_moment : (p : ℕ) → IsAt (opening_of b) h.number p (known h) →
       IsAt (opening_of b) h.number p moment
   at_moment p at =
       at_on (opening_of b) h.number p m.acts.0 (known h) valid_moment
       (stays_inside h.number m.acts.0 (others_only b h k action of m)) at
-
-  -- and the place had its key all the time since
-  pub keeps_key : IsNoCrossing action → (p j : ℕ) → IsAt (opening_of b) h.number p (known h) →
-      role_key (role (opening_of b) p (known h)) ≡ Some j →
-      KeepsKey (opening_of b) p j since (known h)
-  keeps_key none p j at e =
-      keeps_key_on (opening_of b) h.number p j since (known h) (valid_after b h k action of m)
-      (goes_on_inside none) at e
 
   -- ---- the lock that it holds ----
 
@@ -160,18 +146,6 @@ state_found b h k p found of m at s e =
     let o = opening_of b in
     let valid = valid_after b h k (LoadState p found) of m in
     let there = at_moment b h k (LoadState p found) of m p at in
-    let keyed = at_keyed o h.number p (m.acts.0 ++ known h) valid.1 there in
-    form_by_word s (form o p (m.acts.0 ++ known h))
-    (not_blank o (m.acts.0 ++ known h) valid.1 p keyed.0 keyed.1) (valid.0.says ∙ sym e)
-
--- and so does one that an exchange found in place of the expected one
-pub other_state_found : (b : Board) (h k : Hand) (p expected found : ℕ) (of : IsHandOf b h)
-    (m : Makes b h (FailLock p expected found) k) → IsAt (opening_of b) h.number p (known h) →
-    (s : State) → word_of_state s ≡ found → IsFormOf s (form (opening_of b) p (m.acts.0 ++ known h))
-other_state_found b h k p expected found of m at s e =
-    let o = opening_of b in
-    let valid = valid_after b h k (FailLock p expected found) of m in
-    let there = at_moment b h k (FailLock p expected found) of m p at in
     let keyed = at_keyed o h.number p (m.acts.0 ++ known h) valid.1 there in
     form_by_word s (form o p (m.acts.0 ++ known h))
     (not_blank o (m.acts.0 ++ known h) valid.1 p keyed.0 keyed.1) (valid.0.says ∙ sym e)
@@ -228,20 +202,6 @@ locked_after_store b h k p y of m at v x z r e =
     ∙ (choice-same p p (with_value y (form o p t)) (form o p t) refl
     ∙ (ap (with_value y) (locked_moment b h k (StoreValue p y) of m p at v x z r e)
     ∙ ap (λ (n : ℕ). Locked n v r x y) (sym m.number)))
-
--- the place is unlocked, with its version raised
-pub unlocked_after_unlock : (b : Board) (h k : Hand) (p stored : ℕ) (removed : Bool) (d : Change)
-    (of : IsHandOf b h) (m : Makes b h (Unlock p removed d stored) k) →
-    IsAt (opening_of b) h.number p (known h) →
-    (v x y : ℕ) (r : Bool) → form (opening_of b) p (known h) ≡ Locked h.number v r x y →
-    form (opening_of b) p (known k) ≡ Unlocked (v + 1) removed y
-unlocked_after_unlock b h k p stored removed d of m at v x y r e =
-    let o = opening_of b in
-    let t = m.acts.0 ++ known h in
-    ap (form o p) (known_is b h k (Unlock p removed d stored) of m)
-    ∙ (choice-same p p (without_lock removed (form o p t)) (form o p t) refl
-    ∙ ap (without_lock removed)
-    (locked_moment b h k (Unlock p removed d stored) of m p at v x y r e))
 
 -- and the caller holds no lock
 pub no_lock_after_unlock : (b : Board) (h k : Hand) (p stored : ℕ) (removed : Bool) (d : Change) →

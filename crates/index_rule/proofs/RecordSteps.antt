@@ -64,7 +64,7 @@ seen_keyed o c p t valid can =
     (λ (z : IsKeeper o c × HasKey o p t). z.1) can
 
 -- and is a place of the table
-pub seen_place : (o : Opening) (c p : ℕ) (t : Execution) → Valid o t → CanSee o c p t →
+seen_place : (o : Opening) (c p : ℕ) (t : Execution) → Valid o t → CanSee o c p t →
     IsPlace (limits o) p
 seen_place o c p t valid can = keyed_place o t valid p (seen_keyed o c p t valid can)
 

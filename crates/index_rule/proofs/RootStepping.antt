@@ -1,5 +1,5 @@
 -- What a hand knows of the root and of groups after one step of its own.
-use Rattle.std.proofs.Common.{◌≡◌, ℕ, Bool, true, cond, Option, Some, None, ◌++◌, inl, refl, sym, ap}
+use Rattle.std.proofs.Common.{◌≡◌, ℕ, Bool, true, cond, Some, None, ◌++◌, inl, refl, sym, ap}
 use Rattle.std.proofs.Common.{◌∙◌, eq-eqb, false, subst}
 use Rattle.index_machine.specs.declared.events.Action.{Action}
 use Rattle.index_machine.specs.declared.events.Action.TheVariants.{LoadRoot, LoadSlotGroup}
@@ -10,20 +10,19 @@ use Rattle.index_machine.specs.Openings.{opening_root, opening_slot}
 use Rattle.index_machine.specs.Reaching.{SeesSlot, root_seen, root_seen_after, stands_in}
 use Rattle.index_machine.specs.Reaching.{stands_in_after}
 use Rattle.index_machine.specs.RecordConditions.{IsAt}
-use Rattle.index_machine.proofs.Executions.{own_on, own_step}
+use Rattle.index_machine.proofs.Executions.{own_step}
 use Rattle.index_rule.specs.declared.board.Board.{Board}
 use Rattle.index_rule.specs.declared.hand.Hand.{Hand}
 use Rattle.index_rule.specs.Hands.{IsHandOf, Makes, known, opening_of}
 use Rattle.index_rule.specs.Built.{AreBuilt}
 use Rattle.index_rule.proofs.BuiltLaws.{root_as_opened}
 use Rattle.index_rule.proofs.RecordStepping.{now}
-use Rattle.index_rule.proofs.RootSteps.{root_seen_after-own_only}
-use Rattle.index_rule.proofs.Stepping.{built_known, known_is, others_only, valid_after}
+use Rattle.index_rule.proofs.Stepping.{built_known, known_is, valid_after}
 
 -- ---- the root ----
 
 -- the root word that was loaded is that of the moment
-pub root_found : (b : Board) (h k : Hand) (found : ℕ) (of : IsHandOf b h)
+root_found : (b : Board) (h k : Hand) (found : ℕ) (of : IsHandOf b h)
     (m : Makes b h (LoadRoot found) k) → root (opening_of b) (m.acts.0 ++ known h) ≡ found
 root_found b h k found of m = (valid_after b h k (LoadRoot found) of m).0.says
 
@@ -37,25 +36,10 @@ sees_after_root b h k found side i of m in_use = (
   in_use,
 )
 
--- it still does after an action that is no other load of the root
-pub still_sees : (b : Board) (h k : Hand) (d : Action) (side i : ℕ) → IsHandOf b h →
-    Makes b h d k → ((w : Option ℕ) → root_seen_after true d w ≡ w) →
-    SeesSlot h.number side i (known h) → SeesSlot k.number side i (known k)
-still_sees b h k d side i of m keeps sees = (
-  sees.0,
-  now b h k d of m (λ z t. root_seen z t ≡ Some sees.0)
-      (own_step root_seen_after None h.number d (m.acts.0 ++ known h)
-      ∙ (keeps (root_seen h.number (m.acts.0 ++ known h))
-      ∙ (own_on root_seen_after None root_seen_after-own_only h.number m.acts.0 (known h)
-      (others_only b h k d of m)
-      ∙ sees.1))),
-  sees.2,
-)
-
 -- ---- groups ----
 
 -- the group that a slot named at the moment of its load
-pub slot_found : (b : Board) (h k : Hand) (side i found : ℕ) (of : IsHandOf b h)
+slot_found : (b : Board) (h k : Hand) (side i found : ℕ) (of : IsHandOf b h)
     (m : Makes b h (LoadSlotGroup side i found) k) →
     slot (opening_of b) side i (m.acts.0 ++ known h) ≡ found
 slot_found b h k side i found of m = (valid_after b h k (LoadSlotGroup side i found) of m).0.says

@@ -81,7 +81,7 @@ seen_names o (a ∷ t) valid c w e =
     seen_step o t c a.by w a.action valid.1 valid.0 (seen_names o t valid.1 c w) e
 
 -- a slot that can be read is one of the table
-pub sees_word : (o : Opening) (t : Execution) → Valid o t → (c side i : ℕ) →
+sees_word : (o : Opening) (t : Execution) → Valid o t → (c side i : ℕ) →
     CanReadSlot o c side i t → (side < 2) × (i < (limits o).slots)
 sees_word o t valid c side i can =
     ⊎_elim
@@ -107,7 +107,7 @@ slot_by_hand b h side i of can =
 
 -- ---- what others leave ----
 
-pub root_seen_after-own_only : ChangesOwnOnly root_seen_after
+root_seen_after-own_only : ChangesOwnOnly root_seen_after
 root_seen_after-own_only (Enter n) word = refl
 root_seen_after-own_only action word = refl
 

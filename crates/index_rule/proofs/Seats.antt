@@ -99,7 +99,7 @@ module _ (o : Opening) (id : ℕ) (v : View) (ls rs : List ℕ)
         heard_logged = k.heard_logged;
       }
 
-  pub splits : v.opening ≡ Some o → v.heard ≡ [] → v.known ≡ [] → v.log ≡ [] →
+  splits : v.opening ≡ Some o → v.heard ≡ [] → v.known ≡ [] → v.log ≡ [] →
       Splits (Kept o) id v (record v { numbers = ls }) (record v { numbers = rs })
   unfolding one two
   splits of none fresh blank s r at =
@@ -232,7 +232,7 @@ longer_second v w lt = rw (lt-ltb (length v) (length w) lt) refl
 
 -- the longer of two beginnings is a beginning, without events of any hand that made none after
 -- either
-pub shared : (n m v w t : Execution) → n ++ v ≡ t → m ++ w ≡ t →
+shared : (n m v w t : Execution) → n ++ v ≡ t → m ++ w ≡ t →
     (newer : Execution) × (newer ++ longer v w ≡ t)
     × ((hand : ℕ) → Without hand n → Without hand newer)
     × ((hand : ℕ) → Without hand m → Without hand newer)
@@ -271,7 +271,7 @@ shared n m v w t en em =
 
 -- ---- joining ----
 
-pub in_either : (c : ℕ) (ns ms : List ℕ) → In c (ns ++ ms) → In c ns ⊎ In c ms
+in_either : (c : ℕ) (ns ms : List ℕ) → In c (ns ++ ms) → In c ns ⊎ In c ms
 in_either c [] ms h = inr h
 in_either c (n ∷ ns) ms h =
     ⊎_elim (λ (e : c ≡ n). inl (inl e))
@@ -305,7 +305,7 @@ without_after c (e ∷ n) m out = without_after c n m out.1
 
 -- the longer of two beginnings goes on from each of them, without events of any hand that made none
 -- after it
-pub begins_longer : (n m v w t : Execution) → n ++ v ≡ t → m ++ w ≡ t →
+begins_longer : (n m v w t : Execution) → n ++ v ≡ t → m ++ w ≡ t →
     ((mid : Execution) × (mid ++ v ≡ longer v w)
     × ((hand : ℕ) → Without hand n → Without hand mid))
     × ((mid : Execution) × (mid ++ w ≡ longer v w)

@@ -80,7 +80,7 @@ forwards_by_word (Copied v true x) to e = absurd (omega arith)
 forwards_by_word (Copied v false x) to e = absurd (omega arith)
 forwards_by_word Moved to e = absurd (omega arith)
 
-pub moved_by_word : (f : Form) → state_word f ≡ word_of_state state.Moved → f ≡ Moved
+moved_by_word : (f : Form) → state_word f ≡ word_of_state state.Moved → f ≡ Moved
 moved_by_word Moved e = refl
 moved_by_word Blank e = absurd (omega arith)
 moved_by_word (Unlocked v true x) e = absurd (omega arith)

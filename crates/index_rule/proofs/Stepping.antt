@@ -3,13 +3,13 @@ use Rattle.std.proofs.Common.{arith, ◌≡◌, ℕ, ◌%◌, ◌^◌, true, ◌
 use Rattle.word_layout.specs.declared.places.Part.{Part}
 use Rattle.word_layout.specs.Words.{PlaceWord}
 use Rattle.index_machine.specs.declared.events.Action.{Action}
-use Rattle.index_machine.specs.declared.events.Action.TheVariants.{LoadEpoch, PopFree}
+use Rattle.index_machine.specs.declared.events.Action.TheVariants.{LoadEpoch}
 use Rattle.index_machine.specs.declared.events.Action.TheVariants.{Enter}
 use Rattle.index_machine.specs.Execution.{Execution, Continues, Without, event}
 use Rattle.index_machine.specs.Words.{word, store_of, stored}
 use Rattle.index_machine.specs.Sections.{IsCaller, IsKeeper, crossings, crossings_after}
 use Rattle.index_machine.specs.Rows.{Holds, HoldsNone}
-use Rattle.index_machine.specs.ObservedHeads.{IsUnobserved, observed_after, observed_head}
+use Rattle.index_machine.specs.ObservedHeads.{IsUnobserved}
 use Rattle.index_machine.specs.Conditions.{IsReading, MayEnter, MayLeave, Valid}
 use Rattle.index_machine.specs.HeadLaws.{IsNoPushOf}
 use Rattle.index_machine.specs.RecordConditions.{HoldsNoLock}
@@ -17,18 +17,17 @@ use Rattle.index_machine.proofs.Counting.{counted}
 use Rattle.index_machine.proofs.Executions.{valid_before}
 use Rattle.index_machine.proofs.Holders.{TakesLock, holds_no_lock_after, holds_no_lock_on}
 use Rattle.index_machine.proofs.Holders.{outside_holds_none}
-use Rattle.index_machine.proofs.Executions.{crossings_on, crossings_own, observed_head_on}
-use Rattle.index_machine.proofs.Executions.{observed_head_own}
+use Rattle.index_machine.proofs.Executions.{crossings_on, crossings_own}
 use Rattle.index_machine.proofs.GracePeriods.{others_push_none, unobserved_on}
 use Rattle.index_machine.proofs.Holding.{held_words_on}
 use Rattle.index_machine.proofs.Placing.{KeepsRoles, holds_kept, holds_none_kept, holds_none_on}
-use Rattle.index_machine.proofs.Placing.{holds_on, holds_popped, unused-held}
+use Rattle.index_machine.proofs.Placing.{holds_on, unused-held}
 use Rattle.index_rule.specs.declared.board.Board.{Board}
 use Rattle.index_rule.specs.declared.hand.Hand.{Hand}
 use Rattle.index_rule.specs.declared.view.View.{View}
-use Rattle.index_rule.specs.Hands.{IsHandOf, Makes, known, opening_of, view}
+use Rattle.index_rule.specs.Hands.{IsHandOf, Makes, known, opening_of}
 use Rattle.index_rule.specs.Built.{AreBuilt}
-use Rattle.index_rule.specs.Rule.{first_of, HasLog}
+use Rattle.index_rule.specs.Rule.{first_of}
 
 -- an action by which no hand enters or leaves
 abbrev pub IsNoCrossing : Action → Type 0
@@ -36,9 +35,6 @@ IsNoCrossing action = (count : ℕ) → crossings_after true action count ≡ co
 
 module _ (b : Board) (h k : Hand) (action : Action) (of : IsHandOf b h)
     (m : Makes b h action k) where
-  between : Execution
-  between = m.acts.0
-
   -- the whole of what it knows
   pub known_is : known k ≡ event h.number action ∷ m.acts.0 ++ known h
   known_is =
@@ -59,9 +55,6 @@ module _ (b : Board) (h k : Hand) (action : Action) (of : IsHandOf b h)
 
   pub built_known : AreBuilt (known k)
   built_known = (m.acts.3 (opening_of b) of.opened).built
-
-  pub has_log : HasLog (opening_of b) (view k)
-  has_log = (m.acts.3 (opening_of b) of.opened).logged
 
   -- ---- its read section ----
 
@@ -101,14 +94,6 @@ module _ (b : Board) (h k : Hand) (action : Action) (of : IsHandOf b h)
         inside = reading.inside;
         holds_none = still_holds_no_lock takes_none may.holds_none;
       }
-
-  pub observed_is : observed_head k.number (known k)
-      ≡ observed_after true action (observed_head h.number (known h))
-  observed_is =
-      ap (λ (n : ℕ). observed_head n (known k)) m.number
-      ∙ (ap (observed_head h.number) known_is
-      ∙ (observed_head_own h.number action (m.acts.0 ++ known h)
-      ∙ ap (observed_after true action) (observed_head_on h.number m.acts.0 (known h) others_only)))
 
   -- ---- its rows ----
 
@@ -154,14 +139,6 @@ module _ (b : Board) (h k : Hand) (action : Action) (of : IsHandOf b h)
       (λ z. unused-held (sym z ∙ held)) unseen)
 
 -- ---- single steps ----
-
--- the hand that popped a row holds it
-pub holds_after_pop : (b : Board) (h k : Hand) (place next : ℕ) → IsHandOf b h →
-    Makes b h (PopFree place next) k → Holds (opening_of b) k.number place (known k)
-holds_after_pop b h k place next of m =
-    subst (λ (z : ℕ × Execution). Holds (opening_of b) z.0 place z.1)
-    (λ i. (sym m.number i, sym (known_is b h k (PopFree place next) of m) i))
-    (holds_popped (opening_of b) h.number place next (m.acts.0 ++ known h))
 
 -- an epoch word that was loaded counts the crossings
 pub epoch_is : (b : Board) (h k : Hand) (caller found : ℕ) → IsHandOf b h →

@@ -62,7 +62,7 @@ pub one_opening : (o p : Opening) → Some o ≡ Some p → o ≡ p
 one_opening o p e = cc
 
 -- an event of another hand
-pub goes_more : (e : Event) (numbers : List ℕ) (known t : Execution) →
+goes_more : (e : Event) (numbers : List ℕ) (known t : Execution) →
     ((hand : ℕ) → In hand numbers → e.by ≢ hand) → GoesOn numbers known t →
     GoesOn numbers known (e ∷ t)
 goes_more e numbers known t others g =
@@ -204,7 +204,7 @@ steps_log o v c d newer t live is whole named old may valid out hand one =
     same after)
 
 -- how often the hand crossed, after a step of its own
-pub crossings_stepped : (v : View) (d : Action) (newer : Execution) (c : ℕ) →
+crossings_stepped : (v : View) (d : Action) (newer : Execution) (c : ℕ) →
     v.numbers ≡ c ∷ [] → Without c newer →
     crossings c (stepped v d newer).known ≡ crossings_after true d (crossings c v.known)
 crossings_stepped v d newer c is out =

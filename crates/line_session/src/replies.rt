@@ -1,5 +1,5 @@
 //! One request at a time: it is asked, and its reply is handed on whole.
-ghost use Rattle.std.specs.Prelude.{◌≡◌, ◌++◌, List, [], ◌∷◌, ℕ, length, OnOk, OnErr, IsErr};
+ghost use Rattle.std.specs.Prelude.{◌≡◌, [], ◌∷◌, OnOk, OnErr, IsErr};
 ghost use Rattle.std.specs.Io.KnownBytes.{append_known};
 ghost use Rattle.line_session.specs.Ends.{TakesFront, Counts};
 ghost use Rattle.line_session.specs.Session.{Exchange};

@@ -29,13 +29,13 @@ crossings_more hand (e ∷ newer) t =
     let now = crossings_grow (e.by == hand) e.action (crossings hand (newer ++ t)) in
     omega arith
 
-pub grown : (hand : ℕ) (t u : Execution) → Continues t u → crossings hand t ≤ crossings hand u
+grown : (hand : ℕ) (t u : Execution) → Continues t u → crossings hand t ≤ crossings hand u
 grown hand t u g =
     subst (λ (z : Execution). crossings hand t ≤ crossings hand z) g.1 (crossings_more hand g.0 t)
 
 -- ---- marks ----
 
-pub mark_stays : (caller mark : ℕ) (began known later : Execution) → Continues known later →
+mark_stays : (caller mark : ℕ) (began known later : Execution) → Continues known later →
     IsMark caller mark began known → IsMark caller mark began later
 mark_stays caller mark began known later goes_on is =
     record {
@@ -45,7 +45,7 @@ mark_stays caller mark began known later goes_on is =
       word = is.word;
     }
 
-pub mark_now : (caller mark : ℕ) (began known : Execution) → Continues began known →
+mark_now : (caller mark : ℕ) (began known : Execution) → Continues began known →
     mark ≡ crossings caller known % 2 ^ 64 → IsMark caller mark began known
 mark_now caller mark began known after word =
     record { moment = known; after = after; before = continues_same known; word = word }
@@ -94,7 +94,7 @@ left_stays caller began known later goes_on left inside =
     let more = grown caller known later goes_on in
     omega arith
 
-pub passed_stays : (caller mark : ℕ) (began known later : Execution) → Continues known later →
+passed_stays : (caller mark : ℕ) (began known later : Execution) → Continues known later →
     HasPassed caller mark began known → HasPassed caller mark began later
 unfolding mark_stays
 passed_stays caller mark began known later goes_on passed =
@@ -104,7 +104,7 @@ passed_stays caller mark began known later goes_on passed =
     }
 
 -- a caller whose mark and word let it pass has left
-pub passes : (caller mark word : ℕ) (began known : Execution) → IsMark caller mark began known →
+passes : (caller mark word : ℕ) (began known : Execution) → IsMark caller mark began known →
     word ≡ crossings caller known % 2 ^ 64 → Passes mark word → HasPassed caller mark began known
 passes caller mark word began known is now test =
     record { is_mark = is; left = λ inside. left inside test }

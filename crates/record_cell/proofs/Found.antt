@@ -72,7 +72,7 @@ module _ (b : Board) (h k : Hand) (action : Action) (place : ℕ) (none : IsNoCr
       }
 
 -- the key of a place where the caller is, after such a step
-pub key_on : (b : Board) (h k : Hand) (action : Action) (place : ℕ) → IsNoCrossing action →
+key_on : (b : Board) (h k : Hand) (action : Action) (place : ℕ) → IsNoCrossing action →
     Makes b h action k → IsReadyAt b h place → HasSameKey b h place place k
 key_on b h k action place none m ready =
     let o = opening_of b in
@@ -102,12 +102,6 @@ no_redirect word to (v, true, true, e) f = omega arith
 no_redirect word to (v, true, false, e) f = omega arith
 no_redirect word to (v, false, true, e) f = omega arith
 no_redirect word to (v, false, false, e) f = omega arith
-
-pub not_moved : (word : ℕ) → IsRecordWord word → word ≡ word_of_state state.Moved → ⊥
-not_moved word (v, true, true, e) f = omega arith
-not_moved word (v, true, false, e) f = omega arith
-not_moved word (v, false, true, e) f = omega arith
-not_moved word (v, false, false, e) f = omega arith
 
 module _ (b : Board) (h k : Hand) (place word : ℕ) (ready : IsReadyAt b h place)
     (m : Makes b h (LoadState place word) k) where

@@ -74,7 +74,7 @@ lone_first b h place valid ready may =
     }
 
 -- and after each step by which it does not leave
-pub lone_on : (b : Board) (h k : Hand) (action : Action) (place : ℕ) → IsNoCrossing action →
+lone_on : (b : Board) (h k : Hand) (action : Action) (place : ℕ) → IsNoCrossing action →
     Makes b h action k → IsAtLoneRow b place h → IsAtLoneRow b place k
 lone_on b h k action place none m lone =
     record {
@@ -121,7 +121,7 @@ module _ (b : Board) (h m : Hand) (place word : ℕ) (ready : IsReadyAt b h plac
   valid : Valid (opening_of b) (known m)
   valid = valid_known b h m (LoadState place word) ready.of load
 
-  pub lone : IsAtLoneRow b place m
+  lone : IsAtLoneRow b place m
   lone =
       lone_on b h m (LoadState place word) place tt load
       (lone_first b h place

@@ -77,14 +77,6 @@ module _ (f : ℕ → ℕ) where
   hits_below zero xs = 0
   hits_below (suc n) xs = hits_below n xs + hits f n xs
 
-  hits_below-first : (n : ℕ) → hits_below n [] ≡ 0
-  unfolding hits_below
-  hits_below-first zero = refl
-  hits_below-first (suc n) =
-      let before = hits_below-first n in
-      let none = hits-empty f n in
-      omega arith
-
   below_grows : (n x : ℕ) (xs : List ℕ) → hits_below n xs ≤ hits_below n (x ∷ xs)
   unfolding hits_below
   below_grows zero x xs = omega arith

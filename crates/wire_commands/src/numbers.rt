@@ -2,7 +2,7 @@
 //!
 //! A number may be of any length, and zeros may lead. So whether a word is a number and how great
 //! it is are two questions.
-ghost use Rattle.std.specs.Prelude.{◌≡◌, ◌≤◌, ◌↔◌, IsTrue};
+ghost use Rattle.std.specs.Prelude.{◌≤◌, ◌↔◌, IsTrue};
 ghost use Rattle.std.specs.Option.{SomeIff};
 ghost use Rattle.wire_commands.specs.Numbers.{IsNumber, value_of};
 

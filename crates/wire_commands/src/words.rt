@@ -2,7 +2,7 @@
 //!
 //! A word is a longest run of bytes other than space and tab. Words are cut off the front, and
 //! nothing is copied.
-ghost use Rattle.std.specs.Prelude.{◌≡◌, ℕ, [], ◌∷◌, ◌<◌, ◌≤◌, ◌↔◌, length, slice_index, IsTrue, MatchOption};
+ghost use Rattle.std.specs.Prelude.{ℕ, [], ◌∷◌, ◌<◌, ◌≤◌, ◌↔◌, length, slice_index, IsTrue, MatchOption};
 ghost use Rattle.wire_commands.specs.Words.{IsBlank, HasWords, HasOtherCount, BeginsWith};
 
 /// Whether the byte stands between words.

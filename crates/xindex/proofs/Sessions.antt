@@ -95,7 +95,7 @@ longer_than_none [] = refl
 longer_than_none (e ∷ t) = rw (lt-ltb 0 (length (e ∷ t)) (omega arith)) refl
 
 -- a new pass that heeds a note is told
-pub told_by : (i : Index) (n : ℕ) (old : Pass) (seen : Execution) (new : Pass) →
+told_by : (i : Index) (n : ℕ) (old : Pass) (seen : Execution) (new : Pass) →
     number_of old ≡ n → known_to old ≡ [] → log_of old ≡ [] → HeedsNews i old seen new →
     IsTold i seen n new
 told_by i n old seen new number first none heeds =
@@ -115,7 +115,7 @@ told_by i n old seen new number first none heeds =
     }
 
 -- one more of them
-pub told_more : (i : Index) (seen : Execution) (n : ℕ) (ps : List Pass) (p : Pass) →
+told_more : (i : Index) (seen : Execution) (n : ℕ) (ps : List Pass) (p : Pass) →
     AreTold i seen n ps → IsTold i seen (n + length ps) p → AreTold i seen n (ps ++ p ∷ [])
 told_more i seen n [] p told one =
     (subst (λ (z : ℕ). IsTold i seen z p) (omega arith) one, tt)
@@ -135,7 +135,7 @@ told_none i seen n p told =
     ∙ (λ j. changes_by (told.numbered j) (history (told.known j)))))
 
 -- so it is of each of them
-pub none_of : (i : Index) (seen : Execution) (from : ℕ) (ps : List Pass) → AreTold i seen from ps →
+none_of : (i : Index) (seen : Execution) (from : ℕ) (ps : List Pass) → AreTold i seen from ps →
     (n : ℕ) → from ≤ n → n < from + length ps → changes_by n (history seen) ≡ []
 none_of i seen from [] told n low high = absurd (omega arith)
 none_of i seen from (p ∷ ps) told n low high =
@@ -153,7 +153,7 @@ none_of i seen from (p ∷ ps) told n low high =
 -- ---- whose the changes are ----
 
 -- where all other callers changed nothing, all changes are caller 0's
-pub all_by_zero : (o : Opening) (h : History) → AreByCallers o h →
+all_by_zero : (o : Opening) (h : History) → AreByCallers o h →
     ((n : ℕ) → 1 ≤ n → n < (limits o).callers → changes_by n h ≡ []) → AllByZero h
 all_by_zero o [] by none = tt
 all_by_zero o (c ∷ h) by none = (

@@ -62,6 +62,13 @@ status_of ended.Limit = Limit
 abbrev pub unopened : Status → Outcome
 unopened status = record { status = status; opened = None }
 
+-- the program told a refusal and did nothing else: nothing was read, and no index opened
+pub record OnlyRefuses (line : List ℕ) (refused : Status)
+    (left_old left_new written_old written_new : Option (List ℕ)) (outcome : Outcome) : Type 0 where
+  pub refusal : Refuses line refused written_old written_new outcome.status
+  pub unread : left_new ≡ left_old
+  pub no_index : outcome ≡ unopened outcome.status
+
 -- one session was served by pass 0 over the index, which was opened empty with these limits: its log
 -- tells it, and nobody else changed the index; this is the status of its end
 pub record Pipes (l : Limits) (most : ℕ) (left_old left_new written_old written_new : Option (List ℕ))

@@ -14,7 +14,7 @@ use line_session::{Ended, Sink, Source, serve_one};
 use std::sync::{Mutex, Wait};
 use xindex_core::{Index, Name, NamedKeeper, Opened, Pass, Waiter};
 
-/// Serves one session over a new index, by its pass 0. The other passes have seen then what it has.
+/// Serves one session over a new index, by its pass 0. The other passes know then what it knows.
 pub fn serve_alone<N: Name, R: Wait + Copy, S: Source, K: Sink>(
     rt: &R,
     opened: Opened,
@@ -84,7 +84,7 @@ fn serve_by<N: Name, R: Wait + Copy, S: Source, K: Sink>(
     (ended, waiter.finish())
 }
 
-// Tells the others what the first has seen, and puts it in front of them.
+// Tells the others what the first knows, and puts it in front of them.
 fn told_all(index: &Index, mut first: Pass, mut others: Vec<Pass>) -> Vec<Pass>
     requires first { IsPassOf index.now first }
     requires number { number_of first ≡ 0 }

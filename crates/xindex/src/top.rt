@@ -6,8 +6,9 @@ ghost use Rattle.line_session.specs.Ends.{Counts};
 ghost use Rattle.word_layout.specs.Limits.{IsFirstBroken, KeepsRules};
 ghost use Rattle.xindex_core.specs.Opened.{IsNewlyOpened};
 ghost use Rattle.xindex_core.specs.Passes.{limits_of_index};
-ghost use Rattle.xindex.specs.Outcome.{AsksBadLimits, IsNoCommand, Pipes, PipesOrLacksMemory};
-ghost use Rattle.xindex.specs.Outcome.{Refuses, limit_line, status_of, unopened, usage_line};
+ghost use Rattle.xindex.specs.Outcome.{AsksBadLimits, IsNoCommand, OnlyRefuses, Pipes};
+ghost use Rattle.xindex.specs.Outcome.{PipesOrLacksMemory, Refuses, limit_line, status_of};
+ghost use Rattle.xindex.specs.Outcome.{usage_line};
 
 use crate::serving::serve_alone;
 use crate::{Outcome, Status};
@@ -41,27 +42,22 @@ pub fn xindex<R: Wait + Copy, S: Source, K: Sink>(
     ensures opened { IsSome result.opened → (command : Command)
         × IsCommand (texts_of words.now) command × KeepsRules command.limits }
 
-    // Only words that ask for nothing are bad usage. They are told so, and nothing is read.
+    // Only words that ask for nothing are bad usage. They are told so; nothing is read or opened.
     ensures usage { result.status ≡ Status.Usage → IsNoCommand (texts_of words.now) }
-    ensures refusal { IsNoCommand (texts_of words.now)
-        → Refuses usage_line Status.Usage (K.written sink.old) (K.written sink.new) result.status }
-    ensures unread { IsNoCommand (texts_of words.now) → S.left source.new ≡ S.left source.old }
-    ensures unopened { IsNoCommand (texts_of words.now) → result ≡ unopened result.status }
+    ensures refusal { IsNoCommand (texts_of words.now) → OnlyRefuses usage_line Status.Usage
+        (S.left source.old) (S.left source.new) (K.written sink.old) (K.written sink.new) result }
 
-    // Only limits that break a rule are bad. The first such rule is told, and nothing is read.
+    // Only limits that break a rule are bad: the first such rule is told, nothing is read or opened.
     ensures limits { result.status ≡ Status.BadLimits
         → (number : ℕ) × AsksBadLimits (texts_of words.now) number }
     ensures limits_refusal { (number : ℕ) → AsksBadLimits (texts_of words.now) number
-        → Refuses (limit_line number) Status.BadLimits
-        (K.written sink.old) (K.written sink.new) result.status }
-    ensures limits_unread { (number : ℕ) → AsksBadLimits (texts_of words.now) number
-        → S.left source.new ≡ S.left source.old }
-    ensures limits_unopened { (number : ℕ) → AsksBadLimits (texts_of words.now) number
-        → result ≡ unopened result.status }
+        → OnlyRefuses (limit_line number) Status.BadLimits
+        (S.left source.old) (S.left source.new) (K.written sink.old) (K.written sink.new) result }
 
     // Want of memory comes before anything is read or written.
     ensures memory_unread { result.status ≡ Status.Memory → S.left source.new ≡ S.left source.old }
-    ensures memory_unwritten { result.status ≡ Status.Memory → K.written sink.new ≡ K.written sink.old }
+    ensures memory_unwritten { result.status ≡ Status.Memory
+        → K.written sink.new ≡ K.written sink.old }
 
     // A fault is the status wherever an end has counted one, and nowhere else.
     ensures read_faults { Counts (result.status ≡ Status.ReadFault)
@@ -94,12 +90,8 @@ fn run<R: Wait + Copy, S: Source, K: Sink>(
     ensures limits { result.status ≡ Status.BadLimits
         → (number : ℕ) × IsFirstBroken command.limits number }
     ensures limits_refusal { (number : ℕ) → IsFirstBroken command.limits number
-        → Refuses (limit_line number) Status.BadLimits
-        (K.written sink.old) (K.written sink.new) result.status }
-    ensures limits_unread { (number : ℕ) → IsFirstBroken command.limits number
-        → S.left source.new ≡ S.left source.old }
-    ensures limits_unopened { (number : ℕ) → IsFirstBroken command.limits number
-        → result ≡ unopened result.status }
+        → OnlyRefuses (limit_line number) Status.BadLimits
+        (S.left source.old) (S.left source.new) (K.written sink.old) (K.written sink.new) result }
     ensures memory_unread { result.status ≡ Status.Memory → S.left source.new ≡ S.left source.old }
     ensures memory_unwritten { result.status ≡ Status.Memory
         → K.written sink.new ≡ K.written sink.old }

@@ -196,7 +196,7 @@ module _ (l : Limits) (old new : Caller) (was : IsAlone l old) (now : IsAlone l 
         added = adds.added;
       }
 
-  no_room : (key : ℕ) → HasNoRoom old key new → alone.HasNoRoom l old.log key
+  no_room : (key : ℕ) → HasNoRoom old key new → alone.LeavesNoRoom l old.log key
   no_room key none =
       let same : seen_by new ≡ seen_by old = same_seen (ap changes_of none.no_entry) in
       let since = place_since old new none.moment none.within in
@@ -218,7 +218,7 @@ module _ (l : Limits) (old new : Caller) (was : IsAlone l old) (now : IsAlone l 
             (λ i. (now.limits_are i, now.empty i, (same ∙ sym old_is) i)) none.used_up;
       }
 
-  exhausted : (key : ℕ) → IsExhausted old key new → alone.IsExhausted l old.log key
+  exhausted : (key : ℕ) → IsExhausted old key new → alone.ExhaustsVersion l old.log key
   exhausted key worn =
       let same : seen_by new ≡ seen_by old = same_seen (ap changes_of worn.no_entry) in
       subst (λ (z : Limits × History). last_version ≤ z.0.first_version + changes_at key z.1)

@@ -74,7 +74,7 @@ changes_grow key moment t on =
 module _ (b : Board) (h inside done k : Hand) (n m : ℕ) (of : IsHandOf b h)
     (enters : Makes b h (Enter n) inside) (at : IsHandOf b done)
     (number : done.number ≡ inside.number) (leaves : Makes b done (Leave m) k) where
-  pub number_is : k.number ≡ h.number
+  number_is : k.number ≡ h.number
   number_is = leaves.number ∙ (number ∙ enters.number)
 
   pub on_leave : Continues (known done) (known k)

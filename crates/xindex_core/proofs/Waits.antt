@@ -157,14 +157,14 @@ module _ (a b c : Caller) (w : HasWaited a b) where
         truthful = later.truthful;
       }
 
-  pub answers_before : (call : Call) (answer : Answer) → Answers b call answer c →
+  answers_before : (call : Call) (answer : Answer) → Answers b call answer c →
       Answers a call answer c
   answers_before call answer t = (later_before t.0, tells_before call answer t.1)
 
 -- ---- answers ----
 
 -- what a try came to is what its answer tells
-pub once_answers : (i : Index) (old : Pass) (call : Call) (answer : Answer) (new : Pass) →
+once_answers : (i : Index) (old : Pass) (call : Call) (answer : Answer) (new : Pass) →
     AnswersOnce i old call answer new → Answers (caller_with i old) call answer (caller_with i new)
 once_answers i old call answer new once = (
   once.tries.later,

@@ -31,23 +31,23 @@ pub record AddsNext (old : Log) (call : Call) (answer : Answer) (new : Log) : Ty
   pub true_of : StandsBetween (map_of old) entry (map_of new)
   pub added : new ≡ entry ∷ old
 
--- the key is not in the map, and the record rows are used up: as many keys were inserted as there are rows,
--- but for one that each other caller may hold
-pub record HasNoRoom (l : Limits) (old : Log) (key : ℕ) : Type 0 where
+-- the log leaves no room for the key: it is not in the map, and the record rows are used up, since as
+-- many keys were inserted as there are rows, but for one that each other caller may hold
+pub record LeavesNoRoom (l : Limits) (old : Log) (key : ℕ) : Type 0 where
   pub absent : look (map_of old) key ≡ None
   pub full : l.records + 1 ≤ inserts [] (changes_of old) + l.callers
 
--- the key has had as many changes as raise the version of a record to the last one
-abbrev pub IsExhausted : Limits → Log → ℕ → Type 0
-IsExhausted l old key = last_version ≤ l.first_version + changes_at key (changes_of old)
+-- the log has as many changes of the key as raise the version of a record to the last one
+abbrev pub ExhaustsVersion : Limits → Log → ℕ → Type 0
+ExhaustsVersion l old key = last_version ≤ l.first_version + changes_at key (changes_of old)
 
 -- what one call of caller 0 does to its log, where no other caller changes the index and it was opened
 -- empty with these limits
 abbrev pub AnswersAlone : Limits → Log → Call → Answer → Log → Type 0
-AnswersAlone l old (Put key value) Full new = HasNoRoom l old key × (new ≡ old)
+AnswersAlone l old (Put key value) Full new = LeavesNoRoom l old key × (new ≡ old)
 AnswersAlone l old call Full new = ⊥
-AnswersAlone l old (Put key value) Worn new = IsExhausted l old key × (new ≡ old)
-AnswersAlone l old (Remove key) Worn new = IsExhausted l old key × (new ≡ old)
+AnswersAlone l old (Put key value) Worn new = ExhaustsVersion l old key × (new ≡ old)
+AnswersAlone l old (Remove key) Worn new = ExhaustsVersion l old key × (new ≡ old)
 AnswersAlone l old call Worn new = ⊥
 AnswersAlone l old call answer new = AddsNext old call answer new
 

@@ -16,7 +16,7 @@ use Rattle.index_rule.specs.Moments.{IsBetween}
 use Rattle.row_arena.specs.Fullness.{RowsAreUsedUp}
 use Rattle.xindex_core.specs.Callers.{Caller, IsLater, seen_by}
 
--- the moment is one of the call: behind all that the caller had seen, and all that others had changed
+-- the moment is one of the call: behind all that the caller knew, and all that others had changed
 -- before its first step
 abbrev pub IsMomentOf : Caller → Caller → Execution → Type 0
 IsMomentOf old new moment = IsBetween old.number old.known new.known moment

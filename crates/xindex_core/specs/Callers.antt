@@ -20,8 +20,8 @@ pub record Caller : Type 0 where
 abbrev pub seen_by : Caller → History
 seen_by c = history c.known
 
--- what the caller has seen is a legal history of the index's callers, in which its log is true, in
--- order, and has just the changes that are its own
+-- the changes that the caller has seen are a legal history of the index's callers, in which its log
+-- is true, in order, and has just the changes that are its own
 pub record IsTruthful (c : Caller) : Type 0 where
   pub logged : IsLogOf (opening_map c.opening) c.number (seen_by c) c.log
   pub legal : IsLegal (opening_map c.opening) (seen_by c)

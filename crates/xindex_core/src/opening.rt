@@ -1,8 +1,6 @@
 //! An index is opened, with a pass for each caller.
 ghost use Rattle.std.specs.Prelude.{◌≡◌, ◌≤◌, [], IfErr, IfOk, length};
-ghost use Rattle.index_rule.specs.Hands.{opening_of};
 ghost use Rattle.index_rule.specs.Opened.{AreNewHands};
-ghost use Rattle.index_machine.specs.Openings.{opening_map};
 ghost use Rattle.xindex_core.specs.Opened.{IsNewlyOpened, IsRefusal};
 ghost use Rattle.xindex_core.specs.Passes.{AreNewPasses, limits_of_index};
 

@@ -1,4 +1,4 @@
-//! Passes tell each other what they have seen.
+//! Passes tell each other what they know.
 ghost use Rattle.std.specs.Prelude.{◌≡◌};
 ghost use Rattle.index_rule.specs.Notes.{known_of};
 ghost use Rattle.xindex_core.specs.Notes.{HeedsNews, StaysAs};
@@ -9,7 +9,7 @@ use crate::pass::Pass;
 use index_rule::Note;
 
 impl Pass {
-    /// A note of what the pass has seen, for any other pass of the index. The pass stays as it is.
+    /// A note of what the pass knows, for any other pass of the index. The pass stays as it is.
     #[inline]
     pub fn tell(&mut self, index: &Index) -> Note
         requires { IsPassOf index.now self.old }
@@ -20,7 +20,7 @@ impl Pass {
         index.board.tell(&mut self.hand)
     }
 
-    /// From then on the pass has seen the longer of what it and the note had seen.
+    /// From then on the pass knows the longer of what it and the note knew.
     #[inline]
     pub fn heed(&mut self, index: &Index, note: Note)
         requires pass { IsPassOf index.now self.old }

@@ -1,5 +1,5 @@
 //! Passes tell each other, a waiter answers, and limits are refused.
-ghost use Rattle.std.specs.Prelude.{◌≡◌, ◌+◌};
+ghost use Rattle.std.specs.Prelude.{◌+◌};
 ghost use Rattle.std.specs.Vec.Iter.{into_iter_items};
 ghost use Rattle.xindex_core.specs.Naming.{IsNameOf};
 ghost use Rattle.xindex_core.specs.Opened.{IsNewlyOpened};

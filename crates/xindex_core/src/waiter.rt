@@ -1,7 +1,5 @@
 //! A caller that tries each call until it is answered.
 ghost use Rattle.std.specs.Prelude.{◌≡◌};
-ghost use Rattle.map_model.specs.declared.calls.Call.{Call};
-ghost use Rattle.index_rule.specs.declared.tried.Tried.{Tried};
 ghost use Rattle.xindex_core.specs.Answering.{Answers};
 ghost use Rattle.xindex_core.specs.Naming.{IsNameOf, IsNameOf-prop, IsPassOf-prop};
 ghost use Rattle.xindex_core.specs.Passes.{IsPassOf, caller_with};

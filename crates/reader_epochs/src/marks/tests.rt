@@ -1,4 +1,4 @@
-ghost use Rattle.std.specs.Prelude.{◌≡◌, ◌+◌, ◌<◌, IfSome, length};
+ghost use Rattle.std.specs.Prelude.{◌≡◌, ◌+◌, IfSome};
 ghost use Rattle.index_rule.specs.Hands.{IsHandOf, opening_of, view};
 ghost use Rattle.index_rule.specs.Opened.{AreNewHands};
 ghost use Rattle.index_rule.specs.Seats.{new_hand};

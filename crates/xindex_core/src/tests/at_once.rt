@@ -222,7 +222,7 @@ fn heed_other(index: &Index, pass: &mut Pass, other: &mut Pass)
     pass.heed(index, note);
 }
 
-// Each pass has seen what any of them had: the news goes round once, and then back to all.
+// Each pass knows what any of them knew: the news goes round once, and then back to all.
 fn told(index: &Index, passes: Passes) -> Passes
     requires first { IsPassOf index.now passes.0 }
     requires second { IsPassOf index.now passes.1 }

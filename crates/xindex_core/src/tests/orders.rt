@@ -23,7 +23,7 @@ pub struct Front {
 }
 
 /// The front behind all steps that fit one order, each caller's in turn, of a key that had no value.
-pub fn last_front(steps: &[Vec<Step>], most: usize) -> Front {
+pub(super) fn last_front(steps: &[Vec<Step>], most: usize) -> Front {
     let mut front = Front {
         taken: [0; 4],
         value: None,
@@ -39,7 +39,7 @@ pub fn last_front(steps: &[Vec<Step>], most: usize) -> Front {
 }
 
 /// Whether all steps of all callers stand behind the front.
-pub fn is_last(steps: &[Vec<Step>], front: Front) -> bool {
+pub(super) fn is_last(steps: &[Vec<Step>], front: Front) -> bool {
     for caller in 0..CALLERS {
         if !ahead(steps, front, caller).is_empty() {
             return false;

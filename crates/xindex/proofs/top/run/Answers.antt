@@ -1,22 +1,13 @@
 -- Limits that an index was opened with keep the rules, and others break one rule first.
-use Rattle.std.proofs.Common.{ℕ, ap, subst, sym}
+use Rattle.std.proofs.Common.{ℕ, ◌∙◌, refl, subst, sym}
 use Rattle.xindex.proofs.LimitLaws.{none_broken, one_first}
 use Rattle.xindex.specs.declared.outcome.Outcome.{Outcome}
-use Rattle.xindex.specs.Outcome.{Refuses, limit_line}
-use Rattle.xindex.specs.declared.status.Status.{Status}
+use Rattle.xindex.specs.Outcome.{OnlyRefuses, Refuses, limit_line}
 use Rattle.xindex.specs.declared.status.Status.TheVariants.{BadLimits}
 use Rattle.xindex.proofs.top.run.Goals as goal
 
 pub returns-in-Ok-clause-limits_refusal : goal.returns-in-Ok-clause-limits_refusal
 returns-in-Ok-clause-limits_refusal g c = λ number first.
-    absurd (none_broken c.args.command.limits number c.in-Ok.ensures.opened.rules first)
-
-pub returns-in-Ok-clause-limits_unread : goal.returns-in-Ok-clause-limits_unread
-returns-in-Ok-clause-limits_unread g c = λ number first.
-    absurd (none_broken c.args.command.limits number c.in-Ok.ensures.opened.rules first)
-
-pub returns-in-Ok-clause-limits_unopened : goal.returns-in-Ok-clause-limits_unopened
-returns-in-Ok-clause-limits_unopened g c = λ number first.
     absurd (none_broken c.args.command.limits number c.in-Ok.ensures.opened.rules first)
 
 pub returns-in-Err-BadLimit-clause-session : goal.returns-in-Err-BadLimit-clause-session
@@ -29,11 +20,12 @@ pub returns-in-Err-BadLimit-clause-limits_refusal :
 returns-in-Err-BadLimit-clause-limits_refusal g c = λ number first.
     let broken = rw c.in-Err-BadLimit.field-0-is at c.in-Err-BadLimit.ensures.refused in
     let same = one_first c.args.command.limits c.in-Err-BadLimit.number number broken first in
-    subst
-    (λ (z : ℕ × Status). Refuses (limit_line z.0) BadLimits (g.K.Ends.written c.args.sink.now)
-    (g.K.Ends.written c.refuse_limits.new.sink) z.1)
-    (λ i. (same i, sym (ap (λ (o : Outcome). o.status) c.unopened.ensures) i))
-    (subst
+    let told = subst
     (λ (n : ℕ). Refuses (limit_line n) BadLimits (g.K.Ends.written c.args.sink.now)
     (g.K.Ends.written c.refuse_limits.new.sink) c.refuse_limits.result)
-    c.in-Err-BadLimit.number-is c.refuse_limits.ensures.refusal)
+    (c.in-Err-BadLimit.number-is ∙ same) c.refuse_limits.ensures.refusal in
+    subst
+    (λ (o : Outcome). OnlyRefuses (limit_line number) BadLimits (g.S.Ends.left c.args.source.now)
+    (g.S.Ends.left c.args.source.now) (g.K.Ends.written c.args.sink.now)
+    (g.K.Ends.written c.refuse_limits.new.sink) o)
+    (sym c.unopened.ensures) (record { refusal = told; unread = refl; no_index = refl })

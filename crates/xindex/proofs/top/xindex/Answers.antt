@@ -28,11 +28,3 @@ returns-in-Ok-clause-limits g c = λ bad.
 pub returns-in-Ok-clause-limits_refusal : goal.returns-in-Ok-clause-limits_refusal
 returns-in-Ok-clause-limits_refusal g c = λ number bad. c.run.ensures.limits_refusal number
     (breaks_asked (texts_of c.args.words.now) c.in-Ok.command number c.in-Ok.ensures.ok bad.first)
-
-pub returns-in-Ok-clause-limits_unread : goal.returns-in-Ok-clause-limits_unread
-returns-in-Ok-clause-limits_unread g c = λ number bad. c.run.ensures.limits_unread number
-    (breaks_asked (texts_of c.args.words.now) c.in-Ok.command number c.in-Ok.ensures.ok bad.first)
-
-pub returns-in-Ok-clause-limits_unopened : goal.returns-in-Ok-clause-limits_unopened
-returns-in-Ok-clause-limits_unopened g c = λ number bad. c.run.ensures.limits_unopened number
-    (breaks_asked (texts_of c.args.words.now) c.in-Ok.command number c.in-Ok.ensures.ok bad.first)
