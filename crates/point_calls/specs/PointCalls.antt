@@ -67,8 +67,8 @@ MakesAt h w action k =
     (earlier : Execution) × (newer : Execution) × Continues (known h) earlier
     × (newer ++ event h.number action ∷ earlier ≡ known k) × LeavesWord h.number w newer
 
--- the hand made the first of these steps in the call, and later on the other one, both at this word,
--- where it stored nothing in between
+-- the hand made the first of these steps in the call, and later on the other one, both at this
+-- word, where it stored nothing in between
 abbrev pub MakesThen : Hand → Word → Action → Action → Hand → Type 0
 MakesThen h w first other k =
     (earlier : Execution) × (newer : Execution) × Continues (known h) earlier
@@ -99,8 +99,8 @@ pub record MeetsLock (b : Board) (key : ℕ) (h : Hand) (place word : ℕ) (k : 
   pub within : IsWithin h k moment
   pub by_another : IsHeldByAnother h.number (form (opening_of b) place moment)
 
--- a load of the state word, at a place of the key, and a later one found these two words, which differ;
--- the call stored nothing there in between
+-- a load of the state word, at a place of the key, and a later one found these two words, which
+-- differ; the call stored nothing there in between
 pub record MeetsChange (b : Board) (key : ℕ) (h : Hand) (place first second : ℕ) (k : Hand)
     : Type 0 where
   pub loads : MakesThen h (PlaceWord place State) (LoadState place first) (LoadState place second) k

@@ -62,8 +62,8 @@ pub record HasFoundTombstone (b : Board) (start h : Hand) (row : FoundRow) (firs
   pub loaded : MakesAt start (PlaceWord row.place State) (LoadState row.place first) h
   pub stone : IsTombstoneState first
 
--- it found no row of the key there, which belongs into this gap, and has stored nothing at the link there
--- since it loaded it
+-- it found no row of the key there, which belongs into this gap; it loaded the link there, where it
+-- has stored nothing since
 pub record HasFoundGap (b : Board) (start h : Hand) (gap : Gap) : Type 0 where
   pub group_of : IsInGroupOf b start h gap.group gap.key
   pub finds : FindsGap b gap.group gap.key gap.before gap.next start h
@@ -83,8 +83,8 @@ pub record MeetsFrozen (b : Board) (key : ℕ) (h : Hand) (group word : ℕ) (k 
   pub frozen : word ≡ word_of_phase Frozen
   pub missing : IsMissing b key h k
 
--- the exchange of a link, at this address, found another word than the call had loaded there before; the
--- call stored nothing there in between, and the hand holds the row that was to be linked
+-- the exchange of a link, at this address, found another word than the call had loaded there before;
+-- the call stored nothing there in between, and the hand holds the row that was to be linked
 pub record LosesLink (b : Board) (h : Hand) (address expected found : ℕ) (k : Hand) : Type 0 where
   pub group : ℕ
   pub before : ℕ
@@ -94,8 +94,8 @@ pub record LosesLink (b : Board) (h : Hand) (address expected found : ℕ) (k : 
   pub differ : expected ≢ found
   pub held : (place : ℕ) × Holds (opening_of b) k.number place (known k)
 
--- the exchange of the head of the free stack found another word than the call had loaded there before;
--- the call stored nothing there in between
+-- the exchange of the head of the free stack found another word than the call had loaded there
+-- before; the call stored nothing there in between
 pub record LosesHead (h : Hand) (address expected found : ℕ) (k : Hand) : Type 0 where
   pub is_address : address ≡ 0
   pub steps : MakesThen h FreeHead (LoadFree expected) (FailPop expected found) k
