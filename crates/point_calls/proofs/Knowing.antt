@@ -27,17 +27,16 @@ use Rattle.index_rule.specs.Hands.{IsHandOf, Makes, MakesAll, known, opening_of}
 use Rattle.index_rule.specs.Looks.{AddsLook}
 use Rattle.index_rule.specs.Moments.{AddsChange, AddsNoEntry, IsBetween, IsWithin}
 use Rattle.index_rule.specs.OwnRows.{place_of_private}
-use Rattle.index_rule.proofs.Calls.{HasBegun, begins, begun_on, goes_on, up_to}
+use Rattle.index_rule.proofs.Calls.{HasBegun, begins, begun_on, goes_on}
 use Rattle.index_rule.proofs.Logging.{built_before}
 use Rattle.index_rule.proofs.RecordStepping.{still_inside}
-use Rattle.index_rule.proofs.Stepping.{built_known, crossings_is, known_is, still_holds}
+use Rattle.index_rule.proofs.Stepping.{built_known, crossings_is, still_holds}
 use Rattle.index_rule.proofs.Stepping.{still_holds_no_lock}
 use Rattle.index_rule.proofs.Stepping.{still_holds_none, valid_known}
 use Rattle.delta_buffer.specs.Walks.{AreWalkOf, IsWalkOf, MakesIn}
 use Rattle.delta_buffer.proofs.CallSteps.{made_in_call}
 use Rattle.delta_buffer.proofs.Stepping.{no_crossing}
 use Rattle.point_calls.specs.PointCalls.{CanCall, HasSpare, IsOneSection, KeepsRows, LooksUp}
-use Rattle.point_calls.specs.PointCalls.{MakesThen}
 
 -- ---- one step ----
 
@@ -151,19 +150,6 @@ walk_since b g start h (d ∷ actions) k are all i =
 pub made_in : (b : Board) (start h k : Hand) (d : Action) → IsIn b start h → Makes b h d k →
     MakesIn start d k
 made_in b start h k d i m = made_in_call b start h k d i.since i.number i.of m
-
--- it was made behind one that was made before
-pub made_behind : (b : Board) (start h k : Hand) (first d : Action) → h.number ≡ start.number →
-    IsHandOf b h → MakesIn start first h → Makes b h d k → MakesThen start first d k
-made_behind b start h k first d same of one m = (
-  one.0,
-  m.acts.0 ++ known h,
-  one.1,
-  continues_trans (event start.number first ∷ one.0) (known h) (m.acts.0 ++ known h) one.2
-      (up_to b h k d of m),
-  subst (λ (z : ℕ). Continues (event z d ∷ m.acts.0 ++ known h) (known k)) same
-      ([], sym (known_is b h k d of m)),
-)
 
 -- ---- moments ----
 

@@ -1,4 +1,5 @@
 pub mod Knowing
+pub mod LeftWords
 pub mod Locating
 pub mod Missing
 pub mod RowReading

@@ -2,7 +2,8 @@
 use Rattle.std.proofs.Common.{◌≡◌, ℕ, ◌<◌, inl, inr, ⊎_elim, true, false, [], ◌∷◌, ◌++◌, refl, sym, ap}
 use Rattle.std.proofs.Common.{◌∙◌, subst}
 use Rattle.word_layout.specs.declared.places.Part.TheVariants as part
-use Rattle.word_layout.specs.Words.{PlaceWord}
+use Rattle.word_layout.specs.declared.places.Part.{Part}
+use Rattle.word_layout.specs.Words.{PlaceWord, Word, same_word}
 use Rattle.std.proofs.Common.{Option, length, ◌≢◌}
 use mathlib.Core.Logic.{dite}
 use native.Mathlib.Decide.{ℕ_discrete}
@@ -20,7 +21,7 @@ use Rattle.index_machine.specs.declared.events.Action.TheVariants.{Enter, Leave,
 use Rattle.index_machine.specs.declared.events.Action.TheVariants.{StorePrivate}
 use Rattle.index_machine.specs.Forms.{Unlocked, state_word}
 use Rattle.index_machine.specs.Places.{first_version}
-use Rattle.index_machine.specs.Words.{word}
+use Rattle.index_machine.specs.Words.{link_behind, store_of, word}
 use Rattle.machine_buffers.proofs.Inserting.{link_open}
 use Rattle.index_rule.proofs.BuiltLaws.{groups_as_opened}
 use Rattle.delta_buffer.specs.Inserting.{BelongsUntilLinked, CanInsert, IsPrivateStore, OnlyStores}
@@ -42,23 +43,27 @@ use Rattle.index_rule.proofs.RecordReading.{KeepsLog, no_entry}
 use Rattle.index_rule.proofs.RecordStepping.{goes_on_inside, now, since}
 use Rattle.index_rule.proofs.Stepping.{built_known, valid_after, valid_known}
 use Rattle.delta_buffer.specs.Walks.{MakesIn, load_of_link}
-use Rattle.delta_buffer.proofs.CallSteps.{made_by, made_in_call, made_on}
+use Rattle.delta_buffer.proofs.CallSteps.{made_in_call}
 use Rattle.delta_buffer.proofs.Stepping.{before_after, search_after}
 use Rattle.point_calls.specs.declared.found.Gap.{Gap}
-use Rattle.point_calls.specs.PointCalls.{OpensEmpty}
+use Rattle.point_calls.specs.PointCalls.{OpensEmpty, StoresElsewhere}
 use Rattle.point_calls.specs.Putting.{HasFoundGap, IsMissing, MayLinkIn}
 use Rattle.point_calls.proofs.Knowing.{built_at, section_on, valid_at, within_on}
+use Rattle.point_calls.proofs.LeftWords.{left_on, row_elsewhere}
 use Rattle.point_calls.proofs.Missing.{gap_absent, no_array}
 
--- a step by which the hand does not leave, takes no lock, and adds no entry
-pub record IsQuiet (d : Action) : Type 0 where
+-- a step by which the hand does not leave, takes no lock, adds no entry, and stores nothing at the
+-- word
+pub record IsQuiet (hand : ℕ) (w : Word) (d : Action) : Type 0 where
   pub none : IsNoCrossing d
   pub free : TakesLock d → ⊥
   pub keeps : KeepsLog d
+  pub elsewhere : StoresElsewhere w (store_of hand d)
 
 -- it still may link behind such a step
-pub may_on : (b : Board) (start h k : Hand) (gap : Gap) (d : Action) → IsQuiet d →
-    Makes b h d k → MayLinkIn b start h gap → MayLinkIn b start k gap
+pub may_on : (b : Board) (start h k : Hand) (gap : Gap) (d : Action) →
+    IsQuiet h.number (link_behind gap.group gap.before) d → Makes b h d k →
+    MayLinkIn b start h gap → MayLinkIn b start k gap
 may_on b start h k gap d quiet m may =
     let o = opening_of b in
     let of = may.search.of in
@@ -78,7 +83,8 @@ may_on b start h k gap d quiet m may =
       moment = may.moment;
       moment_within = within_on start h k may.moment may.moment_within on;
       absent = may.absent;
-      loaded = made_on start h k (load_of_link gap.group gap.before gap.next) may.loaded on;
+      loaded = left_on b start h k (load_of_link gap.group gap.before gap.next) d
+          (link_behind gap.group gap.before) may.number of quiet.elsewhere m may.loaded;
       between = (
         before_after b gap.group gap.key gap.before h k d quiet.none m may.search may.between.0,
         ⊎_elim (λ (z : gap.next ≡ 0). inl z)
@@ -138,10 +144,9 @@ may_link b start h n gap word found m =
       moment_within = within_on start h n finds.moment finds.within
           (goes_on b h n (LoadPhase gap.group word) at.search.of m);
       absent = finds.absent;
-      loaded = made_on start h n (load_of_link gap.group gap.before gap.next)
-          (made_by start h (load_of_link gap.group gap.before gap.next) finds.moment finds.loaded
-          finds.within.5)
-          (goes_on b h n (LoadPhase gap.group word) at.search.of m);
+      loaded = left_on b start h n (load_of_link gap.group gap.before gap.next)
+          (LoadPhase gap.group word) (link_behind gap.group gap.before) at.number at.search.of tt m
+          found.loaded;
       between = (
         before_after b gap.group gap.key gap.before h n (LoadPhase gap.group word) tt m at.search
             finds.belongs.0,
@@ -203,20 +208,36 @@ can_insert b start h gap place empty may held is new =
           (belongs_until b start h gap empty may);
     }
 
+-- the words of its own row are other ones than the link
+pub own_elsewhere : (b : Board) (start h : Hand) (gap : Gap) (place : ℕ) (p : Part) →
+    Holds (opening_of b) h.number place (known h) → MayLinkIn b start h gap →
+    same_word (PlaceWord place p) (link_behind gap.group gap.before) ≡ false
+own_elsewhere b start h gap place p held may =
+    row_elsewhere (opening_of b) h.number gap.group gap.key gap.before place p (known h)
+    may.between.0 held
+
+-- behind a store to its row
+pub may_stored : (b : Board) (start h k : Hand) (gap : Gap) (place : ℕ) (p : Part) (value : ℕ) →
+    same_word (PlaceWord place p) (link_behind gap.group gap.before) ≡ false →
+    Makes b h (StorePrivate place p value) k → MayLinkIn b start h gap → MayLinkIn b start k gap
+may_stored b start h k gap place p value apart m may =
+    may_on b start h k gap (StorePrivate place p value)
+    (record { none = tt; free = λ z. z; keeps = λ o t log. refl; elsewhere = apart }) m may
+
 -- behind the filling of its row
 pub may_filled : (b : Board) (start h k : Hand) (gap : Gap) (place value : ℕ) →
-    Fills b h place gap.key value k → MayLinkIn b start h gap → MayLinkIn b start k gap
-may_filled b start h k gap place value fills may =
+    Holds (opening_of b) h.number place (known h) → Fills b h place gap.key value k →
+    MayLinkIn b start h gap → MayLinkIn b start k gap
+may_filled b start h k gap place value held fills may =
+    let apart = λ (p : Part). own_elsewhere b start h gap place p held may in
     let all = fills.steps in
     let one = all.1.0 in
     let first : Makes b h (StorePrivate place part.Key gap.key) one =
     subst (λ (z : Hand). Makes b z (StorePrivate place part.Key gap.key) one) all.1.1.1 all.1.1.2 in
-    may_on b start all.0 k gap (StorePrivate place part.State (first_state (opening_of b)))
-    (record { none = tt; free = λ z. z; keeps = λ o t log. refl }) all.2
-    (may_on b start one all.0 gap (StorePrivate place part.Value value)
-    (record { none = tt; free = λ z. z; keeps = λ o t log. refl }) all.1.2
-    (may_on b start h one gap (StorePrivate place part.Key gap.key)
-    (record { none = tt; free = λ z. z; keeps = λ o t log. refl }) first may))
+    may_stored b start all.0 k gap place part.State (first_state (opening_of b)) (apart part.State)
+    all.2
+    (may_stored b start one all.0 gap place part.Value value (apart part.Value) all.1.2
+    (may_stored b start h one gap place part.Key gap.key (apart part.Key) first may))
 
 -- the change that the link added is one of the call
 pub adds_there : (b : Board) (start h k : Hand) (gap : Gap) (change same : Change)

@@ -6,6 +6,7 @@ use Rattle.map_model.specs.declared.entries.Change.TheVariants.{Put, Remove}
 use Rattle.map_model.specs.History.{changes_at}
 use Rattle.word_layout.specs.declared.places.Part.TheVariants.{State}
 use Rattle.word_layout.specs.Places.{part_address}
+use Rattle.word_layout.specs.Words.{PlaceWord}
 use Rattle.index_machine.specs.declared.events.Action.TheVariants.{FailLock, LoadState}
 use Rattle.index_machine.specs.Forms.{last_version}
 use Rattle.index_machine.specs.LivePlaces.{history}
@@ -26,9 +27,9 @@ use Rattle.record_cell.specs.Writes.{FindsLastVersion, Writes, changing, put_at,
 use Rattle.point_calls.specs.Changing.{LosesLock, MeetsLast}
 use Rattle.point_calls.specs.PointCalls.{IsOfKey}
 use Rattle.point_calls.specs.Removing.{RemoveTells}
-use Rattle.point_calls.proofs.Knowing.{AreKept, IsIn, adds_whole, in_all, in_step, made_behind}
-use Rattle.point_calls.proofs.Knowing.{made_in}
+use Rattle.point_calls.proofs.Knowing.{AreKept, IsIn, adds_whole, in_all, in_step, made_in}
 use Rattle.point_calls.proofs.Knowing.{within_whole}
+use Rattle.point_calls.proofs.LeftWords.{made_at, made_behind}
 use Rattle.point_calls.proofs.RowReading.{in_found, loaded_at, of_row}
 
 -- a place of a key has an address
@@ -65,8 +66,9 @@ module _ (b : Board) (start h : Hand) (g key place : ℕ) (i : IsIn b start h) (
           place = at;
           is_address = refl;
           steps = made_behind b start m k (LoadState at expected) (FailLock at expected found)
-              in_m.number in_m.of
-              (made_in b start h m (LoadState at expected) i
+              (PlaceWord at State) in_m.number in_m.of
+              (made_at b start h m (LoadState at expected) (PlaceWord at State) i.since i.number
+              i.of
               (loaded_at b start h g key place i can row m at expected finds))
               fails;
           of_key = of_row b h k g key place at row.0 same;

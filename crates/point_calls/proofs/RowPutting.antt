@@ -5,7 +5,9 @@ use Rattle.index_machine.specs.Execution.{event}
 use Rattle.std.specs.Prelude.{◌==◌, ◌&&◌}
 use Rattle.word_layout.specs.declared.phase.Phase.TheVariants.{Open}
 use Rattle.word_layout.specs.declared.phase.Phase.{Phase}
+use Rattle.word_layout.specs.declared.places.Part.TheVariants.{State}
 use Rattle.word_layout.specs.Phase.{word_of_phase}
+use Rattle.word_layout.specs.Words.{PlaceWord}
 use Rattle.index_machine.specs.declared.events.Action.{Action}
 use Rattle.index_machine.specs.declared.events.Action.TheVariants.{LoadPhase, LoadState}
 use Rattle.index_machine.specs.declared.events.Action.TheVariants.{Lock, StoreValue, Unlock}
@@ -14,6 +16,7 @@ use Rattle.index_machine.specs.Reaching.{saw_open, saw_open_after}
 use Rattle.index_machine.specs.Represents.{has_stale_phase}
 use Rattle.index_machine.specs.Rows.{role_key}
 use Rattle.index_machine.specs.Sections.{IsNoCrossing}
+use Rattle.index_machine.specs.Words.{link_behind}
 use Rattle.index_machine.proofs.Executions.{continues_same, continues_trans, own_step}
 use Rattle.index_machine.proofs.Holders.{TakesLock}
 use Rattle.index_machine.proofs.Placing.{KeepsRoles}
@@ -24,12 +27,11 @@ use Rattle.index_rule.specs.Hands.{IsHandOf, Makes, known, opening_of}
 use Rattle.index_rule.specs.Moments.{AddsNoEntry}
 use Rattle.index_rule.proofs.BufferStepping.{opened_walkable, phase_found}
 use Rattle.index_rule.proofs.BuiltLaws.{groups_as_opened}
-use Rattle.index_rule.proofs.Calls.{goes_on, is_within}
+use Rattle.index_rule.proofs.Calls.{is_within}
 use Rattle.index_rule.proofs.RecordReading.{no_entry}
 use Rattle.index_rule.proofs.RecordStepping.{now, same_role, still_reached}
 use Rattle.delta_buffer.specs.Searching.{CanSearch, FindsGap, IsReachedRow}
-use Rattle.delta_buffer.specs.Walks.{load_of_link}
-use Rattle.delta_buffer.proofs.CallSteps.{made_on}
+use Rattle.delta_buffer.specs.Walks.{Walks, load_of_link}
 use Rattle.delta_buffer.proofs.Stepping.{search_after}
 use Rattle.record_cell.specs.declared.answers.Wrote.TheVariants as wrote
 use Rattle.record_cell.specs.Conditions.{IsLiveState, IsTombstoneState}
@@ -41,7 +43,8 @@ use Rattle.point_calls.specs.declared.found.FoundRow.{FoundRow}
 use Rattle.point_calls.specs.declared.found.Gap.{Gap}
 use Rattle.point_calls.specs.PointCalls.{MeetsChange, OpensEmpty}
 use Rattle.point_calls.specs.Putting.{HasFoundGap, HasFoundRow, HasFoundTombstone, IsInGroupOf}
-use Rattle.point_calls.proofs.Knowing.{IsIn, in_all, in_step, made_behind, made_in, within_whole}
+use Rattle.point_calls.proofs.Knowing.{IsIn, in_all, in_step, within_whole}
+use Rattle.point_calls.proofs.LeftWords.{left_on, made_at, made_behind, walked_at}
 use Rattle.point_calls.proofs.Missing.{no_array}
 use Rattle.point_calls.proofs.RowReading.{ready_row}
 
@@ -109,7 +112,9 @@ found_stone b start h k r at word found finds stone entry =
         row = row_on b start h k g key (LoadState place word) tt (λ z. z) tt here.1 found.group_of
             place found.row;
       };
-      loaded = made_in b start h k (LoadState place word) (is_in b start h g key found.group_of) here.1;
+      loaded = made_at b start h k (LoadState place word) (PlaceWord place State)
+          (is_in b start h g key found.group_of).since found.group_of.number
+          found.group_of.search.of here.1;
       stone = stone;
     }
 
@@ -202,10 +207,10 @@ module _ (b : Board) (start n : Hand) (g key place : ℕ) (at : IsInGroupOf b st
       MeetsChange b key start place first second k
   was_alive h k first second s stone phase m row live =
       record {
-        loads = made_behind b start n k (LoadState place first) (LoadState place second) at.number
-            at.search.of
-            (made_on start h n (LoadState place first) stone.loaded
-            (goes_on b h n (LoadPhase g phase) stone.found.group_of.search.of m))
+        loads = made_behind b start n k (LoadState place first) (LoadState place second)
+            (PlaceWord place State) at.number at.search.of
+            (left_on b start h n (LoadState place first) (LoadPhase g phase) (PlaceWord place State)
+            stone.found.group_of.number stone.found.group_of.search.of tt m stone.loaded)
             s;
         of_key = ap role_key
             (row_on b start n k g key (LoadState place second) tt (λ z. z) tt s at place row).0;
@@ -234,9 +239,9 @@ found_group b start l n g key of own i can none =
 
 -- and found a gap there
 pub found_gap : (b : Board) (start l n : Hand) (found : Gap) → IsIn b start l →
-    IsInGroupOf b start n found.group found.key →
+    IsInGroupOf b start n found.group found.key → Walks b found.group l n →
     FindsGap b found.group found.key found.before found.next l n → HasFoundGap b start n found
-found_gap b start l n found i at gap =
+found_gap b start l n found i at walks gap =
     record {
       group_of = at;
       finds = record {
@@ -257,4 +262,6 @@ found_gap b start l n found i at gap =
         belonged = gap.belonged;
         belongs = gap.belongs;
       };
+      loaded = walked_at b found.group start l n (load_of_link found.group found.before found.next)
+          (link_behind found.group found.before) gap.moment i walks gap.loaded gap.within.5;
     }

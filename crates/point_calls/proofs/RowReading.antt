@@ -1,5 +1,7 @@
 -- What a read of a row tells of its key, within a call.
 use Rattle.std.proofs.Common.{◌≡◌, ◌≢◌, ℕ, inr, Some, sym, ap, ◌∙◌, subst}
+use Rattle.word_layout.specs.declared.places.Part.TheVariants.{State}
+use Rattle.word_layout.specs.Words.{PlaceWord}
 use Rattle.index_machine.specs.declared.events.Action.TheVariants.{LoadState, LoadValue}
 use Rattle.index_machine.specs.Execution.{Continues}
 use Rattle.index_machine.specs.LivePlaces.{value_in_map}
@@ -12,9 +14,7 @@ use Rattle.index_rule.specs.Hands.{IsHandOf, Makes, known, opening_of}
 use Rattle.index_rule.specs.Looks.{MayNote}
 use Rattle.index_rule.specs.Moments.{AddsNoEntry}
 use Rattle.index_rule.specs.Records.{key_at, or_zero}
-use Rattle.index_rule.proofs.Calls.{goes_on}
 use Rattle.delta_buffer.specs.Searching.{CanSearch, IsReachedRow}
-use Rattle.delta_buffer.proofs.CallSteps.{made_on}
 use Rattle.delta_buffer.proofs.Stepping.{search_after}
 use Rattle.record_cell.specs.Conditions.{IsLockedState}
 use Rattle.index_machine.specs.Sections.{IsCaller}
@@ -23,8 +23,8 @@ use Rattle.record_cell.specs.Reads.{FindsLock, FindsNone, FindsValue, IsHeldByAn
 use Rattle.record_cell.proofs.Found.{found_in_place}
 use Rattle.point_calls.specs.Lookup.{HasMissed}
 use Rattle.point_calls.specs.PointCalls.{IsOfKey, MeetsChange, MeetsLock, OpensEmpty}
-use Rattle.point_calls.proofs.Knowing.{IsIn, built_at, in_step, made_behind, made_in, valid_at}
-use Rattle.point_calls.proofs.Knowing.{within_whole}
+use Rattle.point_calls.proofs.Knowing.{IsIn, built_at, in_step, made_in, valid_at, within_whole}
+use Rattle.point_calls.proofs.LeftWords.{left_on, made_at, made_behind}
 use Rattle.point_calls.proofs.Missing.{missed, stone_absent}
 use Rattle.index_machine.specs.Openings.{opening_group}
 
@@ -107,10 +107,11 @@ module _ (b : Board) (start h : Hand) (g key place : ℕ) (i : IsIn b start h) (
       meets_change differ same =
           record {
             loads = made_behind b start m n (LoadState at word) (LoadState at second)
-                (loads.number ∙ in_found.number) loads.of
-                (made_on start k m (LoadState at word)
-                (made_in b start h k (LoadState at word) i loaded_at)
-                (goes_on b k m (LoadValue at value) in_found.of loads))
+                (PlaceWord at State) (loads.number ∙ in_found.number) loads.of
+                (left_on b start k m (LoadState at word) (LoadValue at value) (PlaceWord at State)
+                in_found.number in_found.of tt loads
+                (made_at b start h k (LoadState at word) (PlaceWord at State) i.since i.number i.of
+                loaded_at))
                 again;
             of_key = of_row b h n g key place at row.0 same;
             differ = differ;

@@ -2,6 +2,7 @@
 use Rattle.std.specs.Prelude.{◌≡◌, ◌≢◌, ℕ, ◌+◌, ◌≤◌, Bool}
 use Rattle.word_layout.specs.declared.places.Part.TheVariants.{State}
 use Rattle.word_layout.specs.Places.{part_address}
+use Rattle.word_layout.specs.Words.{PlaceWord}
 use Rattle.map_model.specs.History.{changes_at}
 use Rattle.index_machine.specs.declared.events.Action.TheVariants.{LoadState, FailLock}
 use Rattle.index_machine.specs.Execution.{Execution}
@@ -17,12 +18,13 @@ use Rattle.delta_buffer.specs.Walks.{MakesIn}
 use Rattle.point_calls.specs.PointCalls.{IsOfKey, MakesThen}
 
 -- the exchange of the state word of a place of the key, at this address, found another word than the call
--- had loaded there before
+-- had loaded there before; the call stored nothing there in between
 pub record LosesLock (b : Board) (key : ℕ) (h : Hand) (address expected found : ℕ) (k : Hand)
     : Type 0 where
   pub place : ℕ
   pub is_address : address ≡ part_address place State
-  pub steps : MakesThen h (LoadState place expected) (FailLock place expected found) k
+  pub steps : MakesThen h (PlaceWord place State) (LoadState place expected)
+      (FailLock place expected found) k
   pub of_key : IsOfKey b key place k
   pub differ : expected ≢ found
 

@@ -1,5 +1,7 @@
 -- What a call on one key needs, the entry that it adds, and what it does where it comes to no end.
-use Rattle.std.specs.Prelude.{◌≡◌, ◌≢◌, ℕ, Option, Some, None, [], ◌∷◌, length}
+use Rattle.std.specs.Prelude.{◌≡◌, ◌≢◌, ℕ, false, Option, Some, None, [], ◌∷◌, ◌++◌, length}
+use Rattle.word_layout.specs.declared.places.Part.TheVariants.{State}
+use Rattle.word_layout.specs.Words.{PlaceWord, Word, same_word}
 use Rattle.map_model.specs.declared.entries.Entry.TheVariants.{Look}
 use Rattle.map_model.specs.Answer.{pair_at}
 use Rattle.index_machine.specs.declared.events.Action.{Action}
@@ -10,6 +12,7 @@ use Rattle.index_machine.specs.Places.{form}
 use Rattle.index_machine.specs.RecordConditions.{HoldsNoLock}
 use Rattle.index_machine.specs.Rows.{Holds, HoldsNone, role, role_key}
 use Rattle.index_machine.specs.Sections.{IsReading, crossings}
+use Rattle.index_machine.specs.Words.{Store, store_of}
 use Rattle.index_rule.specs.declared.board.Board.{Board}
 use Rattle.index_rule.specs.declared.hand.Hand.{Hand}
 use Rattle.index_rule.specs.declared.rows.PrivateRow.{PrivateRow}
@@ -47,12 +50,30 @@ KeepsRows b h k = (spare : Option PrivateRow) → HasSpare b h spare → HasSpar
 abbrev pub IsOneSection : Hand → Hand → Type 0
 IsOneSection h k = crossings k.number (known k) ≡ crossings h.number (known h)
 
--- the hand made the first of these steps in the call, and later on the other one
-abbrev pub MakesThen : Hand → Action → Action → Hand → Type 0
-MakesThen h first other k =
-    (earlier : Execution) × (between : Execution) × Continues (known h) earlier
-    × Continues (event h.number first ∷ earlier) between
-    × Continues (event h.number other ∷ between) (known k)
+-- the store, if there is one, is at another word
+abbrev pub StoresElsewhere : Word → Option Store → Type 0
+StoresElsewhere w None = Unit {0}
+StoresElsewhere w (Some s) = same_word s.word w ≡ false
+
+-- the hand itself stored nothing at the word
+abbrev pub LeavesWord : ℕ → Word → Execution → Type 0
+LeavesWord hand w [] = Unit {0}
+LeavesWord hand w (e ∷ newer) =
+    (e.by ≡ hand → StoresElsewhere w (store_of hand e.action)) × LeavesWord hand w newer
+
+-- the hand made this step in the call, and has stored nothing at the word since
+abbrev pub MakesAt : Hand → Word → Action → Hand → Type 0
+MakesAt h w action k =
+    (earlier : Execution) × (newer : Execution) × Continues (known h) earlier
+    × (newer ++ event h.number action ∷ earlier ≡ known k) × LeavesWord h.number w newer
+
+-- the hand made the first of these steps in the call, and later on the other one, both at this
+-- word, where it stored nothing in between
+abbrev pub MakesThen : Hand → Word → Action → Action → Hand → Type 0
+MakesThen h w first other k =
+    (earlier : Execution) × (newer : Execution) × Continues (known h) earlier
+    × Continues (event h.number other ∷ newer ++ event h.number first ∷ earlier) (known k)
+    × LeavesWord h.number w newer
 
 -- ---- its entry ----
 
@@ -78,9 +99,10 @@ pub record MeetsLock (b : Board) (key : ℕ) (h : Hand) (place word : ℕ) (k : 
   pub within : IsWithin h k moment
   pub by_another : IsHeldByAnother h.number (form (opening_of b) place moment)
 
--- a load of the state word, at a place of the key, and a later one found these two words, which differ
+-- a load of the state word, at a place of the key, and a later one found these two words, which
+-- differ; the call stored nothing there in between
 pub record MeetsChange (b : Board) (key : ℕ) (h : Hand) (place first second : ℕ) (k : Hand)
     : Type 0 where
-  pub loads : MakesThen h (LoadState place first) (LoadState place second) k
+  pub loads : MakesThen h (PlaceWord place State) (LoadState place first) (LoadState place second) k
   pub of_key : IsOfKey b key place k
   pub differ : first ≢ second

@@ -3,8 +3,9 @@ use Rattle.std.specs.Prelude.{◌≡◌, ◌≢◌, ◌⊎◌, ℕ, true, IsSome
 use Rattle.map_model.specs.declared.entries.Change.TheVariants.{Put}
 use Rattle.map_model.specs.Map.{look}
 use Rattle.word_layout.specs.declared.phase.Phase.TheVariants.{Frozen}
+use Rattle.word_layout.specs.declared.places.Part.TheVariants.{State}
 use Rattle.word_layout.specs.Phase.{word_of_phase}
-use Rattle.word_layout.specs.Words.{address_of}
+use Rattle.word_layout.specs.Words.{FreeHead, PlaceWord, address_of}
 use Rattle.index_machine.specs.declared.events.Action.TheVariants.{FailLink, FailPop, LoadFree}
 use Rattle.index_machine.specs.declared.events.Action.TheVariants.{LoadPhase, LoadState}
 use Rattle.index_machine.specs.Conditions.{Valid}
@@ -32,8 +33,8 @@ use Rattle.record_cell.specs.Conditions.{IsTombstoneState}
 use Rattle.point_calls.specs.declared.found.FoundRow.{FoundRow}
 use Rattle.point_calls.specs.declared.found.Gap.{Gap}
 use Rattle.point_calls.specs.Changing.{LosesLock, MeetsLast}
-use Rattle.point_calls.specs.PointCalls.{HasSpare, IsOneSection, KeepsRows, MakesThen, MeetsChange}
-use Rattle.point_calls.specs.PointCalls.{MeetsLock}
+use Rattle.point_calls.specs.PointCalls.{HasSpare, IsOneSection, KeepsRows, MakesAt, MakesThen}
+use Rattle.point_calls.specs.PointCalls.{MeetsChange, MeetsLock}
 
 -- ---- within its group ----
 
@@ -55,16 +56,19 @@ pub record HasFoundRow (b : Board) (start h : Hand) (found : FoundRow) : Type 0 
   pub group_of : IsInGroupOf b start h found.group found.key
   pub row : IsReachedRow (opening_of b) h.number found.group found.key found.place (known h)
 
--- this row was a tombstone, by the state word that it loaded
+-- this row was a tombstone, by the state word that it loaded, where it has stored nothing since
 pub record HasFoundTombstone (b : Board) (start h : Hand) (row : FoundRow) (first : ℕ) : Type 0 where
   pub found : HasFoundRow b start h row
-  pub loaded : MakesIn start (LoadState row.place first) h
+  pub loaded : MakesAt start (PlaceWord row.place State) (LoadState row.place first) h
   pub stone : IsTombstoneState first
 
--- it found no row of the key there, which belongs into this gap
+-- it found no row of the key there, which belongs into this gap; it loaded the link there, where it
+-- has stored nothing since
 pub record HasFoundGap (b : Board) (start h : Hand) (gap : Gap) : Type 0 where
   pub group_of : IsInGroupOf b start h gap.group gap.key
   pub finds : FindsGap b gap.group gap.key gap.before gap.next start h
+  pub loaded : MakesAt start (link_behind gap.group gap.before)
+      (load_of_link gap.group gap.before gap.next) h
 
 -- ---- why it is to be tried again ----
 
@@ -79,21 +83,22 @@ pub record MeetsFrozen (b : Board) (key : ℕ) (h : Hand) (group word : ℕ) (k 
   pub frozen : word ≡ word_of_phase Frozen
   pub missing : IsMissing b key h k
 
--- the exchange of a link, at this address, found another word than the call had loaded there before, and
--- the hand holds the row that was to be linked
+-- the exchange of a link, at this address, found another word than the call had loaded there before;
+-- the call stored nothing there in between, and the hand holds the row that was to be linked
 pub record LosesLink (b : Board) (h : Hand) (address expected found : ℕ) (k : Hand) : Type 0 where
   pub group : ℕ
   pub before : ℕ
   pub is_address : address ≡ address_of (limits (opening_of b)) (link_behind group before)
-  pub steps : MakesThen h (load_of_link group before expected)
+  pub steps : MakesThen h (link_behind group before) (load_of_link group before expected)
       (FailLink group before expected found) k
   pub differ : expected ≢ found
   pub held : (place : ℕ) × Holds (opening_of b) k.number place (known k)
 
--- the exchange of the head of the free stack found another word than the call had loaded there before
+-- the exchange of the head of the free stack found another word than the call had loaded there
+-- before; the call stored nothing there in between
 pub record LosesHead (h : Hand) (address expected found : ℕ) (k : Hand) : Type 0 where
   pub is_address : address ≡ 0
-  pub steps : MakesThen h (LoadFree expected) (FailPop expected found) k
+  pub steps : MakesThen h FreeHead (LoadFree expected) (FailPop expected found) k
   pub differ : expected ≢ found
 
 -- why a put is to be tried again
@@ -131,7 +136,7 @@ KeepsSpare old answer new = answer ≢ tried.Done None → IsSome old → IsSome
 -- ---- a new row ----
 
 -- the caller saw the group of the key open, where the key belongs into this gap: it loaded the link there,
--- and the key had no row at a moment of its call
+-- where it has stored nothing since, and the key had no row at a moment of its call
 pub record MayLinkIn (b : Board) (start h : Hand) (gap : Gap) : Type 0 where
   pub began : IsHandOf b start
   pub search : CanSearch b gap.group h
@@ -145,7 +150,8 @@ pub record MayLinkIn (b : Board) (start h : Hand) (gap : Gap) : Type 0 where
   pub moment : Execution
   pub moment_within : IsWithin start h moment
   pub absent : look (rows gap.group moment) gap.key ≡ None
-  pub loaded : MakesIn start (load_of_link gap.group gap.before gap.next) h
+  pub loaded : MakesAt start (link_behind gap.group gap.before)
+      (load_of_link gap.group gap.before gap.next) h
   pub between : BelongsBetween (opening_of b) gap.group gap.key gap.before gap.next (known h)
   pub seen : saw_open h.number gap.group (known h) ≡ true
   pub section : IsOneSection start h

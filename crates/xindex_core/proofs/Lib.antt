@@ -6,3 +6,5 @@ pub mod Waits
 pub mod AloneSteps
 pub mod Names
 pub mod AloneAnswers
+pub mod OwnEvents
+pub mod Undisturbed

@@ -6,6 +6,7 @@ use Rattle.map_model.specs.declared.entries.Change.{Change}
 use Rattle.map_model.specs.declared.entries.Change.TheVariants as change
 use Rattle.map_model.specs.declared.entries.Entry.TheVariants.{Look, Made}
 use Rattle.map_model.specs.Answer.{pair_at}
+use Rattle.word_layout.specs.Words.{Word}
 use Rattle.index_machine.specs.declared.events.Action.{Action}
 use Rattle.index_machine.specs.declared.events.Action.TheVariants.{Enter, Leave}
 use Rattle.index_machine.specs.Execution.{Continues, Execution, event}
@@ -47,20 +48,20 @@ made_since h k d m =
     continues_trans (known h) m.0 (known k) m.1
     (continues_trans m.0 (event h.number d ∷ m.0) (known k) (event h.number d ∷ [], refl) m.2)
 
-then_since : (h k : Hand) (first other : Action) → MakesThen h first other k →
-    Continues (known h) (known k)
-then_since h k first other m =
+then_since : (h : Hand) (w : Word) (k : Hand) (first other : Action) →
+    MakesThen h w first other k → Continues (known h) (known k)
+then_since h w k first other m =
+    let there : Execution = event h.number first ∷ m.0 in
     continues_trans (known h) m.0 (known k) m.2
-    (continues_trans m.0 (event h.number first ∷ m.0) (known k) (event h.number first ∷ [], refl)
-    (continues_trans (event h.number first ∷ m.0) m.1 (known k) m.3
-    (continues_trans m.1 (event h.number other ∷ m.1) (known k) (event h.number other ∷ [], refl)
-    m.4)))
+    (continues_trans m.0 there (known k) (event h.number first ∷ [], refl)
+    (continues_trans there (event h.number other ∷ m.1 ++ there) (known k)
+    (event h.number other ∷ m.1, refl) m.3))
 
 pub get_since : (b : Board) (key : ℕ) (h : Hand) (came : Tried (Option ℕ)) (k : Hand) →
     GetTells b key h came k → Continues (known h) (known k)
 get_since b key h (tried.Done found) k t = within_since h k t.0 t.1
 get_since b key h (tried.Again (why.Locked p w)) k t = made_since h k _ t.1.loaded
-get_since b key h (tried.Again (why.Changed p x y)) k t = then_since h k _ _ t.1.loads
+get_since b key h (tried.Again (why.Changed p x y)) k t = then_since h _ k _ _ t.1.loads
 get_since b key h (tried.Again (why.Frozen g w)) k t = absurd t.1
 get_since b key h (tried.Again (why.Raced p x y)) k t = absurd t.1
 get_since b key h tried.Full k t = absurd t
@@ -73,22 +74,22 @@ remove_since b key h (tried.Done (Some old)) k t = within_since h k t.0 t.1
 remove_since b key h (tried.Again (why.Locked p w)) k t = made_since h k _ t.1.loaded
 remove_since b key h (tried.Again (why.Changed p x y)) k t = absurd t.1
 remove_since b key h (tried.Again (why.Frozen g w)) k t = absurd t.1
-remove_since b key h (tried.Again (why.Raced p x y)) k t = then_since h k _ _ t.1.steps
+remove_since b key h (tried.Again (why.Raced p x y)) k t = then_since h _ k _ _ t.1.steps
 remove_since b key h tried.Full k t = absurd t
 remove_since b key h (tried.Worn p w) k t = made_since h k _ t.1.loaded
 
 raced_since : (b : Board) (key : ℕ) (h : Hand) (a x y : ℕ) (k : Hand) →
     LosesLock b key h a x y k ⊎ (LosesLink b h a x y k ⊎ LosesHead h a x y k) →
     Continues (known h) (known k)
-raced_since b key h a x y k (inl lock) = then_since h k _ _ lock.steps
-raced_since b key h a x y k (inr (inl link)) = then_since h k _ _ link.steps
-raced_since b key h a x y k (inr (inr head)) = then_since h k _ _ head.steps
+raced_since b key h a x y k (inl lock) = then_since h _ k _ _ lock.steps
+raced_since b key h a x y k (inr (inl link)) = then_since h _ k _ _ link.steps
+raced_since b key h a x y k (inr (inr head)) = then_since h _ k _ _ head.steps
 
 pub put_since : (b : Board) (key value : ℕ) (h : Hand) (came : Tried (Option ℕ)) (k : Hand) →
     PutTells b key value h came k → Continues (known h) (known k)
 put_since b key value h (tried.Done old) k t = within_since h k t.0 t.1
 put_since b key value h (tried.Again (why.Locked p w)) k t = made_since h k _ t.1.loaded
-put_since b key value h (tried.Again (why.Changed p x y)) k t = then_since h k _ _ t.1.loads
+put_since b key value h (tried.Again (why.Changed p x y)) k t = then_since h _ k _ _ t.1.loads
 put_since b key value h (tried.Again (why.Frozen g w)) k t = made_since h k _ t.1.loaded
 put_since b key value h (tried.Again (why.Raced p x y)) k t = raced_since b key h p x y k t.1
 put_since b key value h tried.Full k t = made_since h k _ t.1.0

@@ -235,4 +235,5 @@ next_tries i old from came new tries =
       ends = next_ends (caller_with i old) from came (caller_with i new) tries.ends;
       steps = tries.steps;
       full = tries.full;
+      spare = tries.spare;
     }

@@ -9,3 +9,4 @@ pub mod NoName
 pub mod Waiting
 pub mod Fitting
 pub mod Alone
+pub mod Undisturbed

@@ -10,12 +10,13 @@ use Rattle.index_machine.specs.declared.events.Action.TheVariants.{Enter, Leave}
 use Rattle.index_machine.specs.Conditions.{next_epoch}
 use Rattle.index_rule.specs.declared.board.Board.{Board}
 use Rattle.index_rule.specs.declared.hand.Hand.{Hand}
+use Rattle.index_rule.specs.declared.rows.PrivateRow.{PrivateRow}
 use Rattle.index_rule.specs.declared.tried.Tried.{Tried}
 use Rattle.index_rule.specs.declared.tried.Tried.TheVariants as tried
 use Rattle.index_rule.specs.Hands.{Makes, known}
 use Rattle.point_calls.specs.Getting.{GetTells}
 use Rattle.point_calls.specs.PointCalls.{IsOneSection}
-use Rattle.point_calls.specs.Putting.{PutTells}
+use Rattle.point_calls.specs.Putting.{KeepsSpare, PutTells}
 use Rattle.point_calls.specs.Removing.{RemoveTells}
 use Rattle.xindex_core.specs.declared.index.Index.{Index}
 use Rattle.xindex_core.specs.declared.pass.Pass.{Pass}
@@ -65,6 +66,16 @@ StepsTell b (call.Next from) h came k = GetTells b from h came k
 StepsTell b (call.Put key value) h came k = PutTells b key value h came k
 StepsTell b (call.Remove key) h came k = RemoveTells b key h came k
 
+-- ---- the spare row ----
+
+-- what becomes of the spare row: a put uses it up only where its key had no value, and the other
+-- calls leave it
+abbrev pub SpareBecomes : Call → Option PrivateRow → Tried (Option ℕ) → Option PrivateRow → Type 0
+SpareBecomes (call.Get key) old came new = new ≡ old
+SpareBecomes (call.Next from) old came new = new ≡ old
+SpareBecomes (call.Put key value) old came new = KeepsSpare old came new
+SpareBecomes (call.Remove key) old came new = new ≡ old
+
 -- ---- a try ----
 
 -- the pass tried the call once
@@ -74,3 +85,4 @@ pub record Tries (i : Index) (old : Pass) (made : Call) (came : Tried (Option �
   pub ends : EndsAs (caller_with i old) made came (caller_with i new)
   pub steps : EntersAndLeaves i old (λ h k. StepsTell i.board made h came k) new
   pub full : came ≡ tried.Full → spare_of old ≡ None
+  pub spare : SpareBecomes made (spare_of old) came (spare_of new)

@@ -1,8 +1,7 @@
 //! The calls of a pass, each tried once within a read section of its own.
 ghost use Rattle.std.specs.Prelude.{◌≡◌};
 ghost use Rattle.map_model.specs.declared.calls.Call.TheVariants as call;
-ghost use Rattle.point_calls.specs.Putting.{KeepsSpare};
-ghost use Rattle.xindex_core.specs.Passes.{IsPassOf, number_of, spare_of};
+ghost use Rattle.xindex_core.specs.Passes.{IsPassOf, number_of};
 ghost use Rattle.xindex_core.specs.Tries.{Tries};
 
 use crate::index::Index;
@@ -28,7 +27,6 @@ impl Pass {
         requires { IsPassOf index.now self.old }
         ensures pass { IsPassOf index.now self.new }
         ensures tries { Tries index.now self.old (call.Get key) result self.new }
-        ensures spare { spare_of self.new ≡ spare_of self.old }
     {
         enter(&index.board, &mut self.hand);
         let answer = get(&index.board, &mut self.hand, key);
@@ -44,7 +42,6 @@ impl Pass {
         requires { IsPassOf index.now self.old }
         ensures pass { IsPassOf index.now self.new }
         ensures tries { Tries index.now self.old (call.Put key value) result self.new }
-        ensures kept { KeepsSpare (spare_of self.old) result (spare_of self.new) }
     {
         enter(&index.board, &mut self.hand);
         let answer = put(&index.board, &mut self.hand, &mut self.spare, key, value);
@@ -59,7 +56,6 @@ impl Pass {
         requires { IsPassOf index.now self.old }
         ensures pass { IsPassOf index.now self.new }
         ensures tries { Tries index.now self.old (call.Remove key) result self.new }
-        ensures spare { spare_of self.new ≡ spare_of self.old }
     {
         enter(&index.board, &mut self.hand);
         let answer = remove(&index.board, &mut self.hand, key);

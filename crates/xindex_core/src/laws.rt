@@ -3,6 +3,7 @@
 //! A function here does nothing: it has a law for its contract, and so the check proves the law.
 ghost use Rattle.xindex_core.specs.Alone.{CallersAloneTellTheMap, CallsAloneHaveAnswers};
 ghost use Rattle.xindex_core.specs.Naming.{NamesSettleTheIndex};
+ghost use Rattle.xindex_core.specs.Undisturbed.{UndisturbedTriesEnd};
 
 /// Where caller 0 alone changes an index that was opened empty, the log of its calls tells the map, and
 /// each of its answers is true of it.
@@ -19,4 +20,10 @@ pub fn names_settle_the_index()
 /// Such a caller has an answer to each call of one key.
 pub fn calls_alone_have_answers()
     ensures { CallsAloneHaveAnswers }
+{}
+
+/// A try is to be tried again only where another hand made a step during it, or held a version lock
+/// as it began, or where it met a frozen group.
+pub fn undisturbed_tries_end()
+    ensures { UndisturbedTriesEnd }
 {}

@@ -1,9 +1,10 @@
-use Rattle.std.proofs.Common.{◌≡◌, ℕ, ◌<◌, ◌^◌, None, inl, inr, ⊎_elim, Option, refl, sym, ap, ◌∙◌, subst, arith}
+use Rattle.std.proofs.Common.{◌≡◌, ℕ, ◌<◌, ◌^◌, None, inl, inr, ⊎_elim, Option, sym, ap, ◌∙◌, subst, arith}
 use Rattle.map_model.specs.declared.entries.Change.TheVariants.{Put}
 use Rattle.word_layout.specs.declared.places.Part.TheVariants.{Link}
 use Rattle.index_machine.specs.declared.events.Action.TheVariants.{FailLink, LinkRow, LoadPhase}
 use Rattle.index_machine.specs.declared.events.Action.TheVariants.{StorePrivate}
-use Rattle.index_machine.specs.Rows.{InBuffer, role, role_key}
+use Rattle.index_machine.specs.Rows.{Holds, InBuffer, role, role_key}
+use Rattle.index_machine.specs.Words.{link_behind}
 use Rattle.index_rule.specs.declared.rows.PrivateRow.{PrivateRow}
 use Rattle.index_rule.specs.Hands.{Makes, known, opening_of}
 use Rattle.index_rule.specs.OwnRows.{place_of_private}
@@ -13,8 +14,10 @@ use Rattle.index_rule.proofs.Standing.{keyed_place}
 use Rattle.delta_buffer.specs.Inserting.{CanInsert, change_of}
 use Rattle.index_rule.specs.declared.hand.Hand.{Hand}
 use Rattle.point_calls.specs.PointCalls.{HasSpare}
-use Rattle.point_calls.proofs.Knowing.{made_behind, section_on, spare_on}
-use Rattle.point_calls.proofs.NewRows.{adds_there, can_insert, holds_none_linked, may_filled, may_link, may_on}
+use Rattle.point_calls.proofs.Knowing.{section_on, spare_on}
+use Rattle.point_calls.proofs.LeftWords.{made_behind}
+use Rattle.point_calls.proofs.NewRows.{adds_there, can_insert, holds_none_linked, may_filled}
+use Rattle.point_calls.proofs.NewRows.{may_link, may_stored, own_elsewhere}
 use Rattle.point_calls.proofs.RowPutting.{is_open, sees_phase}
 use Rattle.point_calls.proofs.linking.link_new.Goals as goal
 
@@ -68,7 +71,8 @@ insert-requires-clause-search c =
     let gap = c.args.gap in
     let place : ℕ = place_of_private c.in-Ok.row in
     let filled = c.fill.ensures.filled in
-    let may = may_filled b h r k gap place c.args.value filled c.own_row.ensures.may in
+    let may = may_filled b h r k gap place c.args.value c.in-Ok.ensures.answer filled
+    c.own_row.ensures.may in
     may.search
 
 pub insert-requires-clause-may : goal.insert-requires-clause-may
@@ -80,7 +84,8 @@ insert-requires-clause-may c =
     let gap = c.args.gap in
     let place : ℕ = place_of_private c.in-Ok.row in
     let filled = c.fill.ensures.filled in
-    let may = may_filled b h r k gap place c.args.value filled c.own_row.ensures.may in
+    let may = may_filled b h r k gap place c.args.value c.in-Ok.ensures.answer filled
+    c.own_row.ensures.may in
     subst
     (λ (z : PrivateRow).
     CanInsert (opening_of b) k.number gap.group (place_of_private z) gap.before gap.next (known k))
@@ -96,7 +101,8 @@ link_address-requires-clause-place c =
     let gap = c.args.gap in
     let place : ℕ = place_of_private c.in-Ok.row in
     let filled = c.fill.ensures.filled in
-    let may = may_filled b h r k gap place c.args.value filled c.own_row.ensures.may in
+    let may = may_filled b h r k gap place c.args.value c.in-Ok.ensures.answer filled
+    c.own_row.ensures.may in
     ⊎_elim (λ (z : gap.before ≡ 0). below_some gap.before z)
     (λ (z : (j : ℕ) × (role (opening_of b) gap.before (known k) ≡ InBuffer gap.group j)
     × (j < gap.key)).
@@ -115,15 +121,19 @@ returns-in-Done-clause-stays c =
     let gap = c.args.gap in
     let place : ℕ = place_of_private c.in-Ok.row in
     let filled = c.fill.ensures.filled in
-    let may = may_filled b h r k gap place c.args.value filled c.own_row.ensures.may in
+    let may = may_filled b h r k gap place c.args.value c.in-Ok.ensures.answer filled
+    c.own_row.ensures.may in
     let k2 = c.insert.new.hand in
     let all = c.in-Done.ensures.steps in
     let row : ℕ = place_of_private c.fill.new.row in
+    let held : Holds (opening_of b) k.number row (known k) =
+    subst (λ (z : PrivateRow). Holds (opening_of b) k.number (place_of_private z) (known k))
+    (sym c.fill.ensures.row) filled.held in
     let mid = all.0 in
     let stores : Makes b k (StorePrivate row Link gap.next) mid =
     subst (λ (z : Hand). Makes b z (StorePrivate row Link gap.next) mid) all.1.1 all.1.2 in
-    let may2 = may_on b h k mid gap (StorePrivate row Link gap.next)
-    (record { none = tt; free = λ z. z; keeps = λ o t log. refl }) stores may in
+    let may2 = may_stored b h k mid gap row Link gap.next
+    (own_elsewhere b h k gap row Link held may) stores may in
     section_on b h mid k2 (LinkRow gap.group row (change_of b k row) gap.before gap.next) tt
     may2.search.of all.2 may2.section
 
@@ -136,7 +146,8 @@ returns-in-Done-clause-tells c =
     let gap = c.args.gap in
     let place : ℕ = place_of_private c.in-Ok.row in
     let filled = c.fill.ensures.filled in
-    let may = may_filled b h r k gap place c.args.value filled c.own_row.ensures.may in
+    let may = may_filled b h r k gap place c.args.value c.in-Ok.ensures.answer filled
+    c.own_row.ensures.may in
     let is : place_of_private c.fill.new.row ≡ place = ap place_of_private c.fill.ensures.row in
     adds_there b h k c.insert.new.hand gap (change_of b k (place_of_private c.fill.new.row))
     (Put h.number gap.key c.args.value) None may
@@ -152,15 +163,19 @@ returns-in-Raced-clause-stays c =
     let gap = c.args.gap in
     let place : ℕ = place_of_private c.in-Ok.row in
     let filled = c.fill.ensures.filled in
-    let may = may_filled b h r k gap place c.args.value filled c.own_row.ensures.may in
+    let may = may_filled b h r k gap place c.args.value c.in-Ok.ensures.answer filled
+    c.own_row.ensures.may in
     let k2 = c.insert.new.hand in
     let all = c.in-Raced.ensures.steps.2 in
     let row : ℕ = place_of_private c.fill.new.row in
+    let held : Holds (opening_of b) k.number row (known k) =
+    subst (λ (z : PrivateRow). Holds (opening_of b) k.number (place_of_private z) (known k))
+    (sym c.fill.ensures.row) filled.held in
     let mid = all.0 in
     let stores : Makes b k (StorePrivate row Link gap.next) mid =
     subst (λ (z : Hand). Makes b z (StorePrivate row Link gap.next) mid) all.1.1 all.1.2 in
-    let may2 = may_on b h k mid gap (StorePrivate row Link gap.next)
-    (record { none = tt; free = λ z. z; keeps = λ o t log. refl }) stores may in
+    let may2 = may_stored b h k mid gap row Link gap.next
+    (own_elsewhere b h k gap row Link held may) stores may in
     section_on b h mid k2 (FailLink gap.group gap.before gap.next c.in-Raced.found) tt may2.search.of
     all.2 may2.section
 
@@ -173,23 +188,28 @@ returns-in-Raced-clause-tells c =
     let gap = c.args.gap in
     let place : ℕ = place_of_private c.in-Ok.row in
     let filled = c.fill.ensures.filled in
-    let may = may_filled b h r k gap place c.args.value filled c.own_row.ensures.may in
+    let may = may_filled b h r k gap place c.args.value c.in-Ok.ensures.answer filled
+    c.own_row.ensures.may in
     let k2 = c.insert.new.hand in
     let s = c.in-Raced.ensures.steps in
     let all = s.2 in
     let row : ℕ = place_of_private c.fill.new.row in
+    let held : Holds (opening_of b) k.number row (known k) =
+    subst (λ (z : PrivateRow). Holds (opening_of b) k.number (place_of_private z) (known k))
+    (sym c.fill.ensures.row) filled.held in
     let mid = all.0 in
     let stores : Makes b k (StorePrivate row Link gap.next) mid =
     subst (λ (z : Hand). Makes b z (StorePrivate row Link gap.next) mid) all.1.1 all.1.2 in
-    let may2 = may_on b h k mid gap (StorePrivate row Link gap.next)
-    (record { none = tt; free = λ z. z; keeps = λ o t log. refl }) stores may in (
+    let may2 = may_stored b h k mid gap row Link gap.next
+    (own_elsewhere b h k gap row Link held may) stores may in (
       c.in-Raced.ensures.tells.0 ∙ may.no_entry,
       inr (inl (record {
         group = gap.group;
         before = gap.before;
         is_address = c.link_address.ensures;
         steps = made_behind b h mid k2 (load_of_link gap.group gap.before gap.next)
-            (FailLink gap.group gap.before gap.next c.in-Raced.found) may2.number may2.search.of may2.loaded all.2;
+            (FailLink gap.group gap.before gap.next c.in-Raced.found)
+            (link_behind gap.group gap.before) may2.number may2.search.of may2.loaded all.2;
         differ = s.1;
         held = (row, c.in-Raced.ensures.tells.1.filled.held);
       })),
@@ -204,15 +224,19 @@ returns-in-Done-clause-spare c =
     let gap = c.args.gap in
     let place : ℕ = place_of_private c.in-Ok.row in
     let filled = c.fill.ensures.filled in
-    let may = may_filled b h r k gap place c.args.value filled c.own_row.ensures.may in
+    let may = may_filled b h r k gap place c.args.value c.in-Ok.ensures.answer filled
+    c.own_row.ensures.may in
     let k2 = c.insert.new.hand in
     let all = c.in-Done.ensures.steps in
     let row : ℕ = place_of_private c.fill.new.row in
+    let held : Holds (opening_of b) k.number row (known k) =
+    subst (λ (z : PrivateRow). Holds (opening_of b) k.number (place_of_private z) (known k))
+    (sym c.fill.ensures.row) filled.held in
     let mid = all.0 in
     let stores : Makes b k (StorePrivate row Link gap.next) mid =
     subst (λ (z : Hand). Makes b z (StorePrivate row Link gap.next) mid) all.1.1 all.1.2 in
-    let may2 = may_on b h k mid gap (StorePrivate row Link gap.next)
-    (record { none = tt; free = λ z. z; keeps = λ o t log. refl }) stores may in
+    let may2 = may_stored b h k mid gap row Link gap.next
+    (own_elsewhere b h k gap row Link held may) stores may in
     subst (λ (z : Option PrivateRow). HasSpare b k2 z) (sym c.own_row.ensures.gone)
     (holds_none_linked b mid k2 gap.group row gap.before gap.next (change_of b k row) may2.search.of
     may2.search.reading.caller all.2)

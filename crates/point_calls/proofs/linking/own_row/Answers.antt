@@ -1,12 +1,11 @@
 use Rattle.std.proofs.Common.{ℕ, refl, sym, ◌∙◌, subst}
+use Rattle.word_layout.specs.Words.{FreeHead}
 use Rattle.index_machine.specs.declared.events.Action.TheVariants.{FailPop, LoadFree, LoadFreeLink}
 use Rattle.index_machine.specs.declared.events.Action.TheVariants.{PopFree}
 use Rattle.index_rule.specs.declared.hand.Hand.{Hand}
 use Rattle.index_rule.specs.Hands.{Makes}
 use Rattle.index_rule.specs.OwnRows.{place_of_private}
-use Rattle.index_rule.proofs.Calls.{goes_on}
-use Rattle.delta_buffer.proofs.CallSteps.{made_on}
-use Rattle.point_calls.proofs.Knowing.{made_behind}
+use Rattle.point_calls.proofs.LeftWords.{head_elsewhere, left_on, made_at, made_behind}
 use Rattle.point_calls.proofs.NewRows.{is_missing, made_there, may_on}
 use Rattle.point_calls.proofs.linking.own_row.Goals as goal
 
@@ -25,11 +24,17 @@ returns-in-Row-clause-may c =
     let loads : Makes b n (LoadFree x) one =
     subst (λ (z : Hand). Makes b z (LoadFree x) one) all.1.1.1 all.1.1.2 in
     let may1 = may_on b h n one gap (LoadFree x)
-    (record { none = tt; free = λ z. z; keeps = λ o t log. refl }) loads c.requires.may in
+    (record { none = tt; free = λ z. z; keeps = λ o t log. refl; elsewhere = tt })
+    loads c.requires.may in
     let may2 = may_on b h one last gap (LoadFreeLink x s.1.0)
-    (record { none = tt; free = λ z. z; keeps = λ o t log. refl }) all.1.2 may1 in
+    (record { none = tt; free = λ z. z; keeps = λ o t log. refl; elsewhere = tt }) all.1.2 may1 in
     may_on b h last k gap (PopFree x s.1.0)
-    (record { none = tt; free = λ z. z; keeps = λ o t log. refl }) all.2 may2
+    (record {
+      none = tt;
+      free = λ z. z;
+      keeps = λ o t log. refl;
+      elsewhere = head_elsewhere gap.group gap.before;
+    }) all.2 may2
 
 pub returns-in-Empty-clause-may : goal.returns-in-Empty-clause-may
 returns-in-Empty-clause-may c =
@@ -41,7 +46,8 @@ returns-in-Empty-clause-may c =
     let s = c.in-Empty.ensures.steps in
     let loads : Makes b n (LoadFree 0) k = subst (λ (z : Hand). Makes b z (LoadFree 0) k) s.1 s.2 in
     may_on b h n k gap (LoadFree 0)
-    (record { none = tt; free = λ z. z; keeps = λ o t log. refl }) loads c.requires.may
+    (record { none = tt; free = λ z. z; keeps = λ o t log. refl; elsewhere = tt })
+    loads c.requires.may
 
 pub returns-in-Empty-clause-answer : goal.returns-in-Empty-clause-answer
 returns-in-Empty-clause-answer c =
@@ -53,7 +59,8 @@ returns-in-Empty-clause-answer c =
     let s = c.in-Empty.ensures.steps in
     let loads : Makes b n (LoadFree 0) k = subst (λ (z : Hand). Makes b z (LoadFree 0) k) s.1 s.2 in
     let may = may_on b h n k gap (LoadFree 0)
-    (record { none = tt; free = λ z. z; keeps = λ o t log. refl }) loads c.requires.may in (
+    (record { none = tt; free = λ z. z; keeps = λ o t log. refl; elsewhere = tt })
+    loads c.requires.may in (
       sym c.take.ensures.value ∙ c.in-None.is,
       c.in-Empty.ensures.holds,
       (
@@ -78,11 +85,12 @@ returns-in-Raced-clause-may c =
     let loads : Makes b n (LoadFree x) one =
     subst (λ (z : Hand). Makes b z (LoadFree x) one) all.1.1.1 all.1.1.2 in
     let may1 = may_on b h n one gap (LoadFree x)
-    (record { none = tt; free = λ z. z; keeps = λ o t log. refl }) loads c.requires.may in
+    (record { none = tt; free = λ z. z; keeps = λ o t log. refl; elsewhere = tt })
+    loads c.requires.may in
     let may2 = may_on b h one last gap (LoadFreeLink x s.2.0)
-    (record { none = tt; free = λ z. z; keeps = λ o t log. refl }) all.1.2 may1 in
+    (record { none = tt; free = λ z. z; keeps = λ o t log. refl; elsewhere = tt }) all.1.2 may1 in
     may_on b h last k gap (FailPop x c.in-Raced.found)
-    (record { none = tt; free = λ z. z; keeps = λ o t log. refl }) all.2 may2
+    (record { none = tt; free = λ z. z; keeps = λ o t log. refl; elsewhere = tt }) all.2 may2
 
 pub returns-in-Raced-clause-answer : goal.returns-in-Raced-clause-answer
 returns-in-Raced-clause-answer c =
@@ -99,17 +107,20 @@ returns-in-Raced-clause-answer c =
     let loads : Makes b n (LoadFree x) one =
     subst (λ (z : Hand). Makes b z (LoadFree x) one) all.1.1.1 all.1.1.2 in
     let may1 = may_on b h n one gap (LoadFree x)
-    (record { none = tt; free = λ z. z; keeps = λ o t log. refl }) loads c.requires.may in
+    (record { none = tt; free = λ z. z; keeps = λ o t log. refl; elsewhere = tt })
+    loads c.requires.may in
     let may2 = may_on b h one last gap (LoadFreeLink x s.2.0)
-    (record { none = tt; free = λ z. z; keeps = λ o t log. refl }) all.1.2 may1 in (
+    (record { none = tt; free = λ z. z; keeps = λ o t log. refl; elsewhere = tt }) all.1.2 may1 in (
       sym c.take.ensures.value ∙ c.in-None.is,
       c.in-Raced.ensures.holds,
       record {
         is_address = refl;
-        steps = made_behind b h last k (LoadFree x) (FailPop x c.in-Raced.found) may2.number may2.search.of
-            (made_on h one last (LoadFree x)
-            (made_there b h n one gap (LoadFree x) c.requires.may loads)
-            (goes_on b one last (LoadFreeLink x s.2.0) may1.search.of all.1.2))
+        steps = made_behind b h last k (LoadFree x) (FailPop x c.in-Raced.found) FreeHead
+            may2.number may2.search.of
+            (left_on b h one last (LoadFree x) (LoadFreeLink x s.2.0) FreeHead may1.number
+            may1.search.of tt all.1.2
+            (made_at b h n one (LoadFree x) FreeHead c.requires.may.since c.requires.may.number
+            c.requires.may.search.of loads))
             all.2;
         differ = s.1;
       },

@@ -44,7 +44,7 @@ link_new-requires-clause-found c =
     c.find.ensures.search (c.find.ensures.log ∙ comes.no_entry) in
     let gap : Gap = record { group = g; before = c.in-Gap.before; next = c.in-Gap.next; key = key } in
     subst (λ (z : Hand). HasFoundGap b z n gap) (sym c.of-start.ensures)
-    (found_gap b h l n gap il at c.in-Gap.ensures.finds)
+    (found_gap b h l n gap il at w c.in-Gap.ensures.finds)
 
 pub link_new-requires-clause-spare : goal.link_new-requires-clause-spare
 link_new-requires-clause-spare c =

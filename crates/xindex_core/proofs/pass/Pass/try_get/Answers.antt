@@ -1,5 +1,5 @@
 -- What is known inside of the read section is told from outside of it.
-use Rattle.std.proofs.Common.{Option, ℕ, subst}
+use Rattle.std.proofs.Common.{Option, ℕ, refl, subst}
 use Rattle.index_rule.specs.declared.tried.Tried.{Tried}
 use Rattle.point_calls.specs.Getting.{GetTells}
 use Rattle.xindex_core.proofs.Sections.{later_is}
@@ -44,4 +44,5 @@ returns-clause-tries c =
       full = λ is. absurd (subst
           (λ (z : Tried (Option ℕ)). GetTells b c.args.key c.enter.new.hand z c.get-answer.new.hand)
           is tells);
+      spare = refl;
     }

@@ -42,4 +42,5 @@ returns-clause-tries c =
         leaves = c.leave.ensures.step;
       };
       full = c.put-answer.ensures.full;
+      spare = c.put-answer.ensures.kept;
     }
