@@ -12,7 +12,7 @@ use Rattle.xindex_core.specs.declared.index.Index.{Index}
 use Rattle.xindex_core.specs.declared.pass.Pass.{Pass}
 use Rattle.xindex_core.specs.Notes.{HeedsNews}
 use Rattle.xindex_core.specs.Passes.{IsPassOf}
-use Rattle.xindex_core.proofs.Sections.{later}
+use Rattle.xindex_core.proofs.Sections.{later, truthful}
 
 spare_heeded : (b : Board) (h k : Hand) (news : Execution) → notes.Heeds b h news k →
     (spare : Option PrivateRow) → HasSpare b h spare → HasSpare b k spare
@@ -27,6 +27,7 @@ heeds i p k news of m =
         of = m.of;
         rests = heeds_may_enter i.board p.hand k news m of.rests;
         spare = spare_heeded i.board p.hand k news m p.spare of.spare;
+        truthful = truthful i.board k m.follows;
       };
       number = m.number;
       log = m.log;

@@ -15,7 +15,8 @@ use Rattle.xindex_core.specs.declared.index.Index.{Index}
 use Rattle.xindex_core.specs.declared.keeper.Keeper.{Keeper}
 use Rattle.xindex_core.specs.declared.pass.Pass.{Pass}
 use Rattle.xindex_core.specs.Naming.{IsNameOf, NamesSettleTheIndex}
-use Rattle.xindex_core.specs.Passes.{IsKeeperOf, IsPassOf, known_to, number_of, opening_with}
+use Rattle.xindex_core.specs.Callers.{IsTruthful}
+use Rattle.xindex_core.specs.Passes.{log_of, IsKeeperOf, IsPassOf, known_to, number_of, opening_with}
 
 module _ (table : TableId) (opening : Option Opening) (i j : Index)
     (one : IsNameOf table opening i) (other : IsNameOf table opening j) where
@@ -45,6 +46,11 @@ module _ (table : TableId) (opening : Option Opening) (i j : Index)
         of = hand_of p.hand of.of;
         rests = subst (λ (o : Opening). MayEnter o (number_of p) (known_to p)) opening_is of.rests;
         spare = spare_of_hand p.hand p.spare of.spare;
+        truthful = subst
+            (λ (o : Opening).
+            IsTruthful
+            (record { opening = o; number = number_of p; known = known_to p; log = log_of p }))
+            opening_is of.truthful;
       }
 
   keeper_of : (keeper : Keeper) → IsKeeperOf i keeper → IsKeeperOf j keeper

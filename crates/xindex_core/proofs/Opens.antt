@@ -9,6 +9,7 @@ use Rattle.index_machine.specs.Sections.{IsCaller, IsOutside}
 use Rattle.row_arena.proofs.NewHands.{none_first}
 use Rattle.xindex_core.specs.declared.index.Index.{Index}
 use Rattle.xindex_core.specs.declared.pass.Pass.{Pass}
+use Rattle.xindex_core.specs.Callers.{IsTruthful}
 use Rattle.xindex_core.specs.Passes.{AreNewPasses, IsPassOf, known_to, log_of, number_of, opening_with}
 
 -- a hand that made no step is a pass between two calls
@@ -24,6 +25,29 @@ new_pass i h n of number is caller =
         outside = subst (IsOutside h.number) (sym first) refl;
       };
       spare = none_first (opening_with i) h.number (known h) first;
+      truthful = subst
+          (λ (v : View).
+          IsTruthful
+          (record {
+            opening = opening_with i;
+            number = h.number;
+            known = v.known;
+            log = v.log;
+          }))
+          (sym is) nothing_told;
+    }
+  where
+    -- who knows nothing has told nothing
+    nothing_told : IsTruthful (record {
+      opening = opening_with i;
+      number = h.number;
+      known = [];
+      log = [];
+    })
+    nothing_told = record {
+      logged = record { stand = tt; ordered = tt; complete = refl };
+      legal = tt;
+      by_callers = tt;
     }
 
 -- one more of them

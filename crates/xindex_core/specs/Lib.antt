@@ -4,6 +4,7 @@ pub mod Passes
 pub mod Opened
 pub mod Tries
 pub mod Notes
+pub mod OneProof
 pub mod Naming
 pub mod NoName
 pub mod Waiting

@@ -16,7 +16,8 @@ use Rattle.point_calls.specs.PointCalls.{HasSpare}
 use Rattle.xindex_core.specs.declared.index.Index.{Index}
 use Rattle.xindex_core.specs.declared.keeper.Keeper.{Keeper}
 use Rattle.xindex_core.specs.declared.pass.Pass.{Pass}
-use Rattle.xindex_core.specs.Passes.{IsKeeperOf, IsPassOf, name_of, opening_with}
+use Rattle.xindex_core.specs.OneProof.{IsTruthful-prop}
+use Rattle.xindex_core.specs.Passes.{IsKeeperOf, IsPassOf, caller_with, name_of, opening_with}
 
 -- ---- names ----
 
@@ -70,7 +71,8 @@ IsNameOf-prop table opening i = Prim.hlevel (props, Opening-set, TableId-set)
 pub IsPassOf-prop : (i : Index) (p : Pass) → IsProp (IsPassOf i p)
 IsPassOf-prop i p =
     let spare = HasSpare-prop i.board p.hand p.spare in
-    Prim.hlevel (props, Opening-set, TableId-set, spare)
+    let truthful = IsTruthful-prop (caller_with i p) in
+    Prim.hlevel (props, Opening-set, TableId-set, spare, truthful)
 
 -- that the keeper is the one of an index with a name
 pub IsKeeperOfName-prop : (table : TableId) (opening : Option Opening) (keeper : Keeper) →

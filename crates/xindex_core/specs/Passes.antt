@@ -16,7 +16,7 @@ use Rattle.point_calls.specs.PointCalls.{HasSpare}
 use Rattle.xindex_core.specs.declared.index.Index.{Index}
 use Rattle.xindex_core.specs.declared.pass.Pass.{Pass}
 use Rattle.xindex_core.specs.declared.keeper.Keeper.{Keeper}
-use Rattle.xindex_core.specs.Callers.{Caller}
+use Rattle.xindex_core.specs.Callers.{Caller, IsTruthful}
 
 -- ---- an index ----
 
@@ -50,12 +50,6 @@ log_of p = (view p.hand).log
 abbrev pub spare_of : Pass → Option PrivateRow
 spare_of p = p.spare
 
--- the pass is one of the index, between two calls
-pub record IsPassOf (i : Index) (p : Pass) : Type 0 where
-  pub of : IsHandOf i.board p.hand
-  pub rests : MayEnter (opening_with i) (number_of p) (known_to p)
-  pub spare : HasSpare i.board p.hand p.spare
-
 -- the pass as a caller of the index
 abbrev pub caller_with : Index → Pass → Caller
 caller_with i p =
@@ -65,6 +59,13 @@ caller_with i p =
       known = known_to p;
       log = log_of p;
     }
+
+-- the pass is one of the index, between two calls, and its log is true
+pub record IsPassOf (i : Index) (p : Pass) : Type 0 where
+  pub of : IsHandOf i.board p.hand
+  pub rests : MayEnter (opening_with i) (number_of p) (known_to p)
+  pub spare : HasSpare i.board p.hand p.spare
+  pub truthful : IsTruthful (caller_with i p)
 
 -- ---- a note ----
 

@@ -1,5 +1,6 @@
 -- What is known inside of the read section is told from outside of it.
-use Rattle.xindex_core.proofs.Sections.{later_is}
+use Rattle.index_rule.specs.Hands.{opening_of}
+use Rattle.xindex_core.proofs.Sections.{later_is, truthful}
 use Rattle.xindex_core.proofs.Trying.{put_since, put_tells, spare_behind, spare_inside}
 use Rattle.xindex_core.proofs.pass.Pass.try_put.Goals as goal
 
@@ -17,6 +18,8 @@ returns-clause-pass c =
       spare = spare_behind b c.put-answer.new.hand c.leave.new.hand _
           c.put-answer.ensures.call.of c.leave.ensures.step _
           c.put-answer.ensures.spare;
+      truthful = truthful b c.leave.new.hand
+          (c.leave.ensures.step.acts.3 (opening_of b) c.put-answer.ensures.call.of.opened);
     }
 
 pub returns-clause-tries : goal.returns-clause-tries

@@ -2,7 +2,8 @@
 use Rattle.std.proofs.Common.{Option, ℕ, refl, subst}
 use Rattle.index_rule.specs.declared.tried.Tried.{Tried}
 use Rattle.point_calls.specs.Removing.{RemoveTells}
-use Rattle.xindex_core.proofs.Sections.{later_is}
+use Rattle.index_rule.specs.Hands.{opening_of}
+use Rattle.xindex_core.proofs.Sections.{later_is, truthful}
 use Rattle.xindex_core.proofs.Trying.{remove_since, remove_tells, spare_behind, spare_inside}
 use Rattle.xindex_core.proofs.pass.Pass.try_remove.Goals as goal
 
@@ -17,6 +18,8 @@ returns-clause-pass c =
           (c.remove-answer.ensures.rows _
           (spare_inside b c.args.self.now.hand c.enter.new.hand _ c.requires.of
           c.enter.ensures.step _ c.requires.spare));
+      truthful = truthful b c.leave.new.hand
+          (c.leave.ensures.step.acts.3 (opening_of b) c.remove-answer.ensures.call.of.opened);
     }
 
 pub returns-clause-tries : goal.returns-clause-tries
