@@ -30,8 +30,8 @@ use Rattle.index_rule.specs.Built.{AreBuilt}
 use Rattle.index_rule.specs.Rule.{first_of}
 
 -- an action by which no hand enters or leaves
-abbrev pub IsNoCrossing : Action → Type 0
-IsNoCrossing action = (count : ℕ) → crossings_after true action count ≡ count
+abbrev pub KeepsCrossings : Action → Type 0
+KeepsCrossings action = (count : ℕ) → crossings_after true action count ≡ count
 
 module _ (b : Board) (h k : Hand) (action : Action) (of : IsHandOf b h)
     (m : Makes b h action k) where
@@ -66,7 +66,7 @@ module _ (b : Board) (h k : Hand) (action : Action) (of : IsHandOf b h)
       ∙ (crossings_own h.number action (m.acts.0 ++ known h)
       ∙ ap (crossings_after true action) (crossings_on h.number m.acts.0 (known h) others_only)))
 
-  pub still_reading : IsNoCrossing action → IsReading (opening_of b) h.number (known h) →
+  pub still_reading : KeepsCrossings action → IsReading (opening_of b) h.number (known h) →
       IsReading (opening_of b) k.number (known k)
   still_reading none reading =
       record {
@@ -85,7 +85,7 @@ module _ (b : Board) (h k : Hand) (action : Action) (of : IsHandOf b h)
       (λ takes. absurd (takes_none takes))
       (holds_no_lock_on (opening_of b) h.number m.acts.0 (known h) others_only none))
 
-  pub still_may_leave : IsNoCrossing action → (TakesLock action → ⊥) →
+  pub still_may_leave : KeepsCrossings action → (TakesLock action → ⊥) →
       MayLeave (opening_of b) h.number (known h) → MayLeave (opening_of b) k.number (known k)
   still_may_leave none takes_none may =
       let reading = still_reading none (record { caller = may.caller; inside = may.inside }) in

@@ -5,7 +5,7 @@ ghost use Rattle.index_rule.specs.BuiltLaws.{GroupsAreAsOpened, RowsAreInTheirGr
 ghost use Rattle.index_rule.specs.BuiltLaws.{KeysHaveOnePlaceEach, RootIsAsOpened};
 ghost use Rattle.index_rule.specs.Moments.{MomentsLieWithin};
 
-/// A moment of a call is not before what its hand had seen, nor behind what it knows at the end.
+/// A moment of a call is not before what its hand knew, nor behind what it knows at the end.
 pub fn moments_lie_within()
     ensures { MomentsLieWithin }
 {}
