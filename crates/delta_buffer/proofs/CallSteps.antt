@@ -35,9 +35,3 @@ pub made_in_call : (b : Board) (h i k : Hand) (d : Action) → Continues (known 
     i.number ≡ h.number → IsHandOf b i → Makes b i d k → MakesIn h d k
 made_in_call b h i k d since same of m =
     made_by h k d (known k) (just_made b h i k d since same of m) (continues_same (known k))
-
--- and stays one
-pub made_on : (h i k : Hand) (d : Action) → MakesIn h d i → Continues (known i) (known k) →
-    MakesIn h d k
-made_on h i k d m on =
-    (m.0, m.1, continues_trans (event h.number d ∷ m.0) (known i) (known k) m.2 on)

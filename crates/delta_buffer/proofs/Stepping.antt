@@ -409,6 +409,6 @@ first_behind b g key before next h k gap some =
     (λ (z : (j : ℕ) × (role o next (known k) ≡ InBuffer g j) × (key < j)). (
       z.0,
       (z.1, gap.ahead some),
-      inr (z.2, (gap.moment, gap.within, gap.empty.row z.0 z.1)),
+      inr (z.2, (gap.moment, ((before, gap.loaded), gap.within), gap.empty.row z.0 z.1)),
     ))
     gap.belongs.1

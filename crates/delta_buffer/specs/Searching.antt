@@ -65,21 +65,26 @@ Finds b group key h (found.Row place) k =
     IsReachedRow (opening_of b) k.number group key place (known k)
 Finds b group key h (found.Gap before next) k = FindsGap b group key before next h k
 
--- at a moment of the call no key from this one up to below the other had a row
-abbrev pub FindsNoneUpTo : Board → ℕ → ℕ → ℕ → Hand → Hand → Type 0
-FindsNoneUpTo b group key first h k =
-    (moment : Execution) × IsWithin h k moment
+-- the call loaded a link that led to this place, and this is the moment of the load
+abbrev pub LoadsLinkTo : ℕ → ℕ → Hand → Hand → Execution → Type 0
+LoadsLinkTo group place h k moment =
+    ((before : ℕ) × HasJustMade h (load_of_link group before place) moment) × IsWithin h k moment
+
+-- as the link to the row was loaded, no key from this one up to below the row's had a row
+abbrev pub FindsNoneUpTo : ℕ → ℕ → ℕ → ℕ → Hand → Hand → Type 0
+FindsNoneUpTo group key first place h k =
+    (moment : Execution) × LoadsLinkTo group place h k moment
     × ((i : ℕ) → key ≤ i → i < first → look (rows group moment) i ≡ None)
 
--- at a moment of the call no key from this one on had a row
-abbrev pub FindsNoneFrom : Board → ℕ → ℕ → Hand → Hand → Type 0
-FindsNoneFrom b group key h k =
-    (moment : Execution) × IsWithin h k moment
+-- as a link to none was loaded, no key from this one on had a row
+abbrev pub FindsNoneFrom : ℕ → ℕ → Hand → Hand → Type 0
+FindsNoneFrom group key h k =
+    (moment : Execution) × LoadsLinkTo group 0 h k moment
     × ((i : ℕ) → key ≤ i → look (rows group moment) i ≡ None)
 
 -- the row is the first one from the key on, or there was none
 abbrev pub FindsFirst : Board → ℕ → ℕ → Hand → Option ℕ → Hand → Type 0
 FindsFirst b group key h (Some place) k =
     (first : ℕ) × IsReachedRow (opening_of b) k.number group first place (known k)
-    × ((first ≡ key) ⊎ ((key < first) × FindsNoneUpTo b group key first h k))
-FindsFirst b group key h None k = FindsNoneFrom b group key h k
+    × ((first ≡ key) ⊎ ((key < first) × FindsNoneUpTo group key first place h k))
+FindsFirst b group key h None k = FindsNoneFrom group key h k

@@ -32,8 +32,8 @@ pub enum Why {
         group: u32,
         word: u64,
     },
-    /// The word at this place, or behind it, was expected to be one and found to be another. 0 is the
-    /// head of the free stack.
+    /// The word at this address of the table was expected to be one and found to be another: a state
+    /// word, a link, or at 0 the head of the free stack.
     Raced {
         place: u32,
         expected: u64,

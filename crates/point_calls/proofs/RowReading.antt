@@ -15,7 +15,10 @@ use Rattle.index_rule.specs.Looks.{MayNote}
 use Rattle.index_rule.specs.Moments.{AddsNoEntry}
 use Rattle.index_rule.specs.Records.{key_at, or_zero}
 use Rattle.delta_buffer.specs.Searching.{CanSearch, IsReachedRow}
+use Rattle.delta_buffer.proofs.CallSteps.{just_made}
 use Rattle.delta_buffer.proofs.Stepping.{search_after}
+use Rattle.index_machine.proofs.Executions.{continues_same}
+use Rattle.index_rule.proofs.Calls.{is_within}
 use Rattle.record_cell.specs.Conditions.{IsLockedState}
 use Rattle.index_machine.specs.Sections.{IsCaller}
 use Rattle.record_cell.specs.Finding.{Finds, HasSameKey, IsReadyAt}
@@ -23,7 +26,7 @@ use Rattle.record_cell.specs.Reads.{FindsLock, FindsNone, FindsValue, IsHeldByAn
 use Rattle.record_cell.proofs.Found.{found_in_place}
 use Rattle.point_calls.specs.Lookup.{HasMissed}
 use Rattle.point_calls.specs.PointCalls.{IsOfKey, MeetsChange, MeetsLock, OpensEmpty}
-use Rattle.point_calls.proofs.Knowing.{IsIn, built_at, in_step, made_in, valid_at, within_whole}
+use Rattle.point_calls.proofs.Knowing.{IsIn, built_at, in_step, valid_at, within_whole}
 use Rattle.point_calls.proofs.LeftWords.{left_on, made_at, made_behind}
 use Rattle.point_calls.proofs.Missing.{missed, stone_absent}
 use Rattle.index_machine.specs.Openings.{opening_group}
@@ -74,13 +77,13 @@ module _ (b : Board) (start h : Hand) (g key place : ℕ) (i : IsIn b start h) (
     pub meets_lock : IsLockedState word → FindsLock b h place at k → MeetsLock b key start at word k
     meets_lock locked lock =
         record {
-          loaded = made_in b start h k (LoadState at word) i loaded_at;
+          moment = known k;
+          loaded = just_made b start h k (LoadState at word) i.since i.number i.of loaded_at;
+          within = is_within start k (known k) in_found.begun (continues_same (known k));
           locked = locked;
-          of_key = of_row b h k g key place at row.0 lock.3;
-          moment = lock.0;
-          within = within_whole b start h k lock.0 i lock.1;
-          by_another = subst (λ (z : ℕ). IsHeldByAnother z (form (opening_of b) at lock.0)) i.number
-              lock.2;
+          of_key = of_row b h k g key place at row.0 lock.1;
+          by_another = subst (λ (z : ℕ). IsHeldByAnother z (form (opening_of b) at (known k)))
+              i.number lock.0;
         }
 
     -- a tombstone was found

@@ -19,7 +19,7 @@ use Rattle.index_rule.specs.declared.rows.PrivateRow.{PrivateRow}
 use Rattle.index_rule.specs.Hands.{IsHandOf, known, opening_of, view}
 use Rattle.index_rule.specs.Moments.{IsWithin}
 use Rattle.index_rule.specs.OwnRows.{place_of_private}
-use Rattle.delta_buffer.specs.Walks.{MakesIn}
+use Rattle.delta_buffer.specs.Walks.{HasJustMade}
 use Rattle.record_cell.specs.Conditions.{IsLockedState}
 use Rattle.record_cell.specs.Reads.{IsHeldByAnother}
 
@@ -90,13 +90,13 @@ LooksUp b key h found k =
 abbrev pub IsOfKey : Board → ℕ → ℕ → Hand → Type 0
 IsOfKey b key place k = role_key (role (opening_of b) place (known k)) ≡ Some key
 
--- the call loaded this state word at a place of the key, whose version lock another hand held
+-- the call loaded this state word at a place of the key, whose version lock another hand held just then
 pub record MeetsLock (b : Board) (key : ℕ) (h : Hand) (place word : ℕ) (k : Hand) : Type 0 where
-  pub loaded : MakesIn h (LoadState place word) k
+  pub moment : Execution
+  pub loaded : HasJustMade h (LoadState place word) moment
+  pub within : IsWithin h k moment
   pub locked : IsLockedState word
   pub of_key : IsOfKey b key place k
-  pub moment : Execution
-  pub within : IsWithin h k moment
   pub by_another : IsHeldByAnother h.number (form (opening_of b) place moment)
 
 -- a load of the state word, at a place of the key, and a later one found these two words, which

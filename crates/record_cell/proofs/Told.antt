@@ -158,8 +158,6 @@ pub finds_lock : (b : Board) (h k : Hand) (place at word : ℕ) → IsReadyAt b 
     k.number ≡ h.number → CanStepAt b k at → IsFoundAt b h place at word k → IsLockedState word →
     FindsLock b h place at k
 finds_lock b h k place at word ready number can found locked = (
-  known k,
-  within_end h k (finding_begins b h k place at word ready.of found.steps),
   ⊎_elim
       (λ (z : (c : ℕ) × (x : ℕ) × (y : ℕ)
       × (form (opening_of b) at (known k) ≡ Locked c locked.0 locked.1 x y)). inl (

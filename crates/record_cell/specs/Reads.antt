@@ -84,11 +84,10 @@ IsHeldByAnother hand f =
     ((other : ℕ) × (other ≢ hand) × IsLockedBy other f)
     ⊎ ((version : ℕ) × (removed : Bool) × (value : ℕ) × (f ≡ Copied version removed value))
 
--- so it was at a moment of the call, at a place of the key
+-- so it is at the load that ended the call, at a place of the key
 abbrev pub FindsLock : Board → Hand → ℕ → ℕ → Hand → Type 0
 FindsLock b h place at k =
-    (moment : Execution) × IsWithin h k moment
-    × IsHeldByAnother h.number (form (opening_of b) at moment) × HasSameKey b h place at k
+    IsHeldByAnother h.number (form (opening_of b) at (known k)) × HasSameKey b h place at k
 
 -- what the answer of a read tells of the key
 abbrev pub ReadTells : Board → Hand → ℕ → Read → Hand → Type 0

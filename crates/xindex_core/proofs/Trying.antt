@@ -60,7 +60,7 @@ then_since h w k first other m =
 pub get_since : (b : Board) (key : ℕ) (h : Hand) (came : Tried (Option ℕ)) (k : Hand) →
     GetTells b key h came k → Continues (known h) (known k)
 get_since b key h (tried.Done found) k t = within_since h k t.0 t.1
-get_since b key h (tried.Again (why.Locked p w)) k t = made_since h k _ t.1.loaded
+get_since b key h (tried.Again (why.Locked p w)) k t = within_since h k _ t.1.within
 get_since b key h (tried.Again (why.Changed p x y)) k t = then_since h _ k _ _ t.1.loads
 get_since b key h (tried.Again (why.Frozen g w)) k t = absurd t.1
 get_since b key h (tried.Again (why.Raced p x y)) k t = absurd t.1
@@ -71,7 +71,7 @@ pub remove_since : (b : Board) (key : ℕ) (h : Hand) (came : Tried (Option ℕ)
     RemoveTells b key h came k → Continues (known h) (known k)
 remove_since b key h (tried.Done None) k t = within_since h k t.0 t.1
 remove_since b key h (tried.Done (Some old)) k t = within_since h k t.0 t.1
-remove_since b key h (tried.Again (why.Locked p w)) k t = made_since h k _ t.1.loaded
+remove_since b key h (tried.Again (why.Locked p w)) k t = within_since h k _ t.1.within
 remove_since b key h (tried.Again (why.Changed p x y)) k t = absurd t.1
 remove_since b key h (tried.Again (why.Frozen g w)) k t = absurd t.1
 remove_since b key h (tried.Again (why.Raced p x y)) k t = then_since h _ k _ _ t.1.steps
@@ -88,7 +88,7 @@ raced_since b key h a x y k (inr (inr head)) = then_since h _ k _ _ head.steps
 pub put_since : (b : Board) (key value : ℕ) (h : Hand) (came : Tried (Option ℕ)) (k : Hand) →
     PutTells b key value h came k → Continues (known h) (known k)
 put_since b key value h (tried.Done old) k t = within_since h k t.0 t.1
-put_since b key value h (tried.Again (why.Locked p w)) k t = made_since h k _ t.1.loaded
+put_since b key value h (tried.Again (why.Locked p w)) k t = within_since h k _ t.1.within
 put_since b key value h (tried.Again (why.Changed p x y)) k t = then_since h _ k _ _ t.1.loads
 put_since b key value h (tried.Again (why.Frozen g w)) k t = made_since h k _ t.1.loaded
 put_since b key value h (tried.Again (why.Raced p x y)) k t = raced_since b key h p x y k t.1

@@ -1,3 +1,5 @@
+use Rattle.std.proofs.Common.{ℕ, subst}
+use Rattle.delta_buffer.specs.Walks.{HasJustMade, load_of_link}
 use Rattle.delta_buffer.proofs.Stepping.{first_behind}
 use Rattle.delta_buffer.proofs.finding.first_from.Goals as goal
 
@@ -9,4 +11,12 @@ returns-in-Gap-clause-finds c =
 pub returns-in-Gap-default-eq0-clause-finds : goal.returns-in-Gap-default-eq0-clause-finds
 returns-in-Gap-default-eq0-clause-finds c =
     let gap = c.in-Gap-default-eq0.ensures.finds in
-    (gap.moment, gap.within, gap.empty.end c.in-Gap-default-eq0.next-test)
+    let to = λ (next : ℕ). HasJustMade c.args.hand.now
+    (load_of_link c.args.group c.in-Gap-default-eq0.before next) gap.moment in (
+      gap.moment,
+      (
+        (c.in-Gap-default-eq0.before, subst to c.in-Gap-default-eq0.next-test gap.loaded),
+        gap.within,
+      ),
+      gap.empty.end c.in-Gap-default-eq0.next-test,
+    )
