@@ -8,7 +8,8 @@ use mathlib.Core.Logic.{dite}
 use native.Mathlib.Decide.{ℕ_discrete}
 use Rattle.map_model.specs.Map.{IsRising, Map, look}
 use Rattle.index_machine.specs.Lists.{In}
-use Rattle.machine_buffers.proofs.NextRows.{found_on, look_first}
+use Rattle.machine_buffers.proofs.LaneWalks.{none_unless}
+use Rattle.machine_buffers.proofs.NextRows.{found_on, look_first, look_other}
 
 -- ---- the count ----
 
@@ -119,10 +120,6 @@ below_same (suc n) m u same =
 
 -- ---- all keys ----
 
-look_other : (r : ℕ × ℕ) (rs : Map) (k : ℕ) → r.0 ≢ k → look (r ∷ rs) k ≡ look rs k
-unfolding look
-look_other r rs k other = grind (arith, nat_tests)
-
 look_empty : (k : ℕ) → look [] k ≡ None
 unfolding look
 look_empty k = refl
@@ -178,10 +175,6 @@ below_most n (r ∷ rs) =
     let more = one_more_most n r rs in
     let rest = below_most n rs in
     omega arith
-
-pub none_unless : (x : Option ℕ) → ((q : ℕ) → x ≡ Some q → ⊥) → x ≡ None
-none_unless None never = refl
-none_unless (Some q) never = absurd (never q refl)
 
 -- all keys are counted below one that is greater than each
 pub below_least : (n : ℕ) (m : Map) → IsRising m → ((k q : ℕ) → look m k ≡ Some q → k < n) →

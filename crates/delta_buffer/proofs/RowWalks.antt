@@ -21,6 +21,7 @@ use Rattle.index_machine.proofs.Executions.{valid_before}
 use Rattle.index_machine.proofs.OpeningRows.{opening_role-row}
 use Rattle.index_machine.proofs.Placing.{buffer_row, placed}
 use Rattle.machine_buffers.specs.Walks.{IsWalkable}
+use Rattle.machine_buffers.proofs.LaneWalks.{none_unless}
 use Rattle.machine_buffers.proofs.LinkingRows.{all_listed}
 use Rattle.machine_buffers.proofs.NextRows.{less_or_not}
 use Rattle.machine_buffers.proofs.Walks.{rise, rises}
@@ -39,7 +40,6 @@ use Rattle.delta_buffer.specs.Searching.{CanSearch, IsReachedRow}
 use Rattle.delta_buffer.specs.Walks.{FollowsLink}
 use Rattle.delta_buffer.proofs.KeyCounts.{below_fits, below_kept, below_least, below_most}
 use Rattle.delta_buffer.proofs.KeyCounts.{below_next_least, below_next_most, below_zero, keys_below}
-use Rattle.delta_buffer.proofs.KeyCounts.{none_unless}
 use Rattle.delta_buffer.proofs.Links.{buffer_key, link_of_row, row_some}
 use Rattle.delta_buffer.proofs.CallSteps.{begun_since}
 use Rattle.delta_buffer.proofs.Stepping.{IsOn, arrives, empty_from, sets_out}

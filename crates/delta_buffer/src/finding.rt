@@ -38,7 +38,8 @@ pub fn find(board: &Board, hand: &mut Hand, group: u32, key: u64) -> Found
 
 /// Seeks the first row of the group's buffer whose key is not below this one.
 ///
-/// What it says of smaller keys, or `None` of all, held at the load of the link that led there.
+/// That no key from this one up to the row's had a row, or with `None` none from this one on, held at the
+/// load of the link that led there.
 #[inline]
 pub fn first_from(board: &Board, hand: &mut Hand, group: u32, key: u64) -> Option<u32>
     requires { CanSearch board.now group hand.old }

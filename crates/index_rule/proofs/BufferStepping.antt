@@ -10,7 +10,7 @@ use Rattle.index_machine.specs.Reaching.{stands_in}
 use Rattle.index_machine.specs.Conditions.{Valid}
 use Rattle.index_machine.specs.Openings.{opening_group}
 use Rattle.index_machine.specs.declared.opening.Opening.{Opening}
-use Rattle.machine_buffers.specs.Groups.{Answers}
+use Rattle.machine_buffers.specs.Groups.{IsOfAKey}
 use Rattle.index_rule.specs.Built.{AreBuilt}
 use Rattle.index_rule.proofs.BuiltLaws.{groups_as_opened}
 use Rattle.index_machine.specs.Represents.{has_stale_phase}
@@ -48,7 +48,7 @@ phase_found b h k g found of m =
 pub opened_walkable : (o : Opening) (t : Execution) → Valid o t → AreBuilt t → (j : ℕ) →
     IsWalkable o (opening_group o j) t × (has_stale_phase (opening_group o j) t ≡ false)
 opened_walkable o t valid built j =
-    let answers : Answers o (opening_group o j) t =
+    let answers : IsOfAKey o (opening_group o j) t =
     inl (j, ((groups_as_opened o t built).0 j).0) in (
       of_keys o t valid (opening_group o j) answers,
       true_of_keys o t valid (opening_group o j) answers,

@@ -41,7 +41,7 @@ pub record FillsArray (l : Limits) (rows : Map) (many : ℕ) (old new : List ℕ
       ((i : ℕ) (part : Part) → i < many → part ≢ Link → w ≢ PlaceWord (array_address l 0 i) part) →
       word_named l new w ≡ word_named l old w
 
--- hands of the board that made no step yet, with the numbers from one on
+-- hands of the board that made no step yet, with rising numbers from this one on
 abbrev pub AreNewHands : Board → ℕ → List Hand → Type 0
 AreNewHands b number [] = Unit {0}
 AreNewHands b number (h ∷ hs) =

@@ -93,7 +93,7 @@ pub record Kept (o : Opening) (s : State (Unit {0}) View) : Type 0 where
   pub known : (id : ℕ) (v : View) → get_elem? s.views id ≡ some v → v.opening ≢ None →
       Knows o execution v
 
--- the numbers from one on, so many
+-- rising numbers from this one on, so many
 abbrev pub counting : ℕ → ℕ → List ℕ
 counting first zero = []
 counting first (suc n) = first ∷ counting (first + 1) n

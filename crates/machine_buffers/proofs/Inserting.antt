@@ -11,7 +11,7 @@ use Rattle.index_machine.specs.Reaching.{saw_open, saw_opened, stands_in}
 use Rattle.index_machine.specs.Rows.{InArray, InBuffer, role}
 use Rattle.index_machine.specs.Sections.{IsCaller, StaysInside}
 use Rattle.index_machine.specs.declared.events.Action.{Action}
-use Rattle.index_machine.specs.declared.events.Action.TheVariants.{Install, LinkRow, NewGroup}
+use Rattle.index_machine.specs.declared.events.Action.TheVariants.{Install, LinkRow}
 use Rattle.index_machine.specs.declared.events.Action.TheVariants.{StoreRedirect}
 use Rattle.index_machine.specs.declared.opening.Opening.{Opening}
 use Rattle.machine_barriers.proofs.OpenedGroups.{open_not, opened_groups_hold}
@@ -24,8 +24,7 @@ use Rattle.machine_buffers.specs.Inserting.{IsNewKeyFor, OpenedBuffersWithoutVal
 use Rattle.machine_buffers.specs.Phases.{OpenedPhasesStay}
 use Rattle.machine_readers.proofs.FromOpening.{buffer_tombstones, gaps, insert_behind, insert_open}
 use Rattle.machine_readers.proofs.FromOpening.{not_found, not_found_behind, stay_behind, without_value}
-use Rattle.machine_readers.proofs.ReadSections.{saw_opened_on, stands_in_on}
-use Rattle.machine_readers.proofs.Redirects.{phase_stays}
+use Rattle.machine_readers.proofs.ReadSections.{opened_step, saw_opened_on, stands_in_on}
 use Rattle.machine_readers.proofs.Roles.{IsLinkOf, array_back, row_back}
 use Rattle.machine_readers.specs.Readers.{ArrayHasNone, BufferHasNone}
 use Rattle.machine_readers.specs.Buffers.{rows}
@@ -35,23 +34,10 @@ use Rattle.word_layout.specs.declared.phase.Phase.TheVariants.{Opened}
 -- ---- groups where a caller stands ----
 
 -- an opened group stays so
-opened_on : (o : Opening) (t : Execution) (b : ℕ) (d : Action) (c g f : ℕ) → Allowed o t b d →
-    IsCaller o c → stands_in c g t ≡ true → phase g t ≡ Opened f →
-    phase g (event b d ∷ t) ≡ Opened f
-opened_on o t b d c g f may is s e = ⊎_elim
-    (λ (z : phase g (event b d ∷ t) ≡ Opened f). z)
-    (λ (z : (h : ℕ) × (low : ℕ) × (high : ℕ) × (i : ℕ) × (d ≡ NewGroup h low high i)
-    × ((h ≡ g) ⊎ (h ≡ f))).
-    let m = may_as o t b d (NewGroup z.0 z.1 z.2 z.3) z.4 may in
-    absurd (⊎_elim
-    (λ (y : z.0 ≡ g). m.gone.empty c is (subst (λ (x : ℕ). stands_in c x t ≡ true) (sym y) s))
-    (λ (y : z.0 ≡ f). (m.replaced g (e ∙ ap (λ (x : ℕ). Opened x) (sym y))).empty c is s) z.5))
-    (phase_stays o t b d g f may e)
-
 pub opened_while : OpenedPhasesStay
 opened_while o c g f is [] t valid stay s e = e
 opened_while o c g f is (x ∷ n) t valid stay s e =
-    opened_on o (n ++ t) x.by x.action c g f valid.0 is (stands_in_on c g n t stay.1 s)
+    opened_step o (n ++ t) x.by x.action c g f valid.0 is (stands_in_on c g n t stay.1 s)
     (opened_while o c g f is n t valid.1 stay.1 s e)
 
 -- a group that answers for a key does so after an action, or was opened
@@ -75,10 +61,10 @@ final_on o t b d c g may is s final = ⊎_elim
     (λ (z : (k : ℕ) × (group_of o k t ≡ g)). ⊎_elim
     (λ (y : group_of o z.0 (event b d ∷ t) ≡ g). inl (z.0, y))
     (λ (y : (f : ℕ) × (phase g t ≡ Opened f)).
-    inr (y.0, opened_on o t b d c g y.0 may is s y.1))
+    inr (y.0, opened_step o t b d c g y.0 may is s y.1))
     (answers_on o t b d g z.0 may z.1))
     (λ (z : (f : ℕ) × (phase g t ≡ Opened f)).
-    inr (z.0, opened_on o t b d c g z.0 may is s z.1)) final
+    inr (z.0, opened_step o t b d c g z.0 may is s z.1)) final
 
 final_while : (o : Opening) (c g : ℕ) → IsCaller o c → (n t : Execution) → Valid o (n ++ t) →
     StaysInside c n → stands_in c g t ≡ true → HasFinalArray o g t → HasFinalArray o g (n ++ t)
@@ -178,7 +164,7 @@ own_or_opened : (o : Opening) (c g k : ℕ) → IsCaller o c → (n t : Executio
 own_or_opened o c g k is [] t valid stay s own = inl own
 own_or_opened o c g k is (x ∷ n) t valid stay s own =
     let on = λ (f : ℕ) (e : phase g (n ++ t) ≡ Opened f).
-    opened_on o (n ++ t) x.by x.action c g f valid.0 is (stands_in_on c g n t stay.1 s) e in
+    opened_step o (n ++ t) x.by x.action c g f valid.0 is (stands_in_on c g n t stay.1 s) e in
     ⊎_elim
     (λ (y : group_of o k (n ++ t) ≡ g). ⊎_elim
     (λ (z : group_of o k (event x.by x.action ∷ (n ++ t)) ≡ g). inl z)

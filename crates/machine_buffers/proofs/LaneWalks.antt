@@ -13,7 +13,7 @@ use Rattle.machine_buffers.proofs.LinkedLanes.{leads_from, linked_kept, linked_o
 use Rattle.machine_buffers.proofs.LinkingRows.{all_listed, row_place}
 use Rattle.machine_buffers.proofs.NextRows.{HasNoneFrom, IsFirstBefore, row_or_none}
 use Rattle.machine_buffers.proofs.Walkable.{buffers_hold}
-use Rattle.machine_buffers.specs.Lanes.{IsBefore, IsInRange, IsLinked, LaneDecides, Lane}
+use Rattle.machine_buffers.specs.Lanes.{IsBefore, IsInRange, IsLinkedLane, LaneDecides, Lane}
 use Rattle.machine_buffers.specs.Lanes.{LaneLinksDecide, LaneLinksLeadIntoTheLane, LaneLinksRise}
 use Rattle.machine_buffers.specs.Lanes.{LeftLaneLinksDoNotComeBack, LinkedRowsTakeTheirPlace}
 use Rattle.machine_buffers.specs.Lanes.{OtherLanesStayLinked, lane_link, link_from}
@@ -53,12 +53,12 @@ into_lane o lane q t valid is into =
     ))
     (row_or_none m l.0 lane.end (rising_at o lane.group t valid))
 
-none_unless : (x : Option ℕ) → ((q : ℕ) → x ≡ Some q → ⊥) → x ≡ None
+pub none_unless : (x : Option ℕ) → ((q : ℕ) → x ≡ Some q → ⊥) → x ≡ None
 none_unless None never = refl
 none_unless (Some q) never = absurd (never q refl)
 
 module _ (o : Opening) (t : Execution) (valid : Valid o t) (lane : Lane) (k n low : ℕ)
-    (is : IsLinked o lane t) (from : lane.low ≤ low) (le : low ≤ k) (before : IsBefore k lane.end)
+    (is : IsLinkedLane o lane t) (from : lane.low ≤ low) (le : low ≤ k) (before : IsBefore k lane.end)
     (leads : n ≡ link_from lane.end low (rows lane.group t)) where
   abbrev m : Map
   m = rows lane.group t
@@ -130,7 +130,7 @@ lane_rises o lane p i j t valid is here range there =
 
 -- the rows of a lane stay among those linked into it while a caller stands in the group
 pub row_stays : (o : Opening) (lane : Lane) (c k q : ℕ) → IsCaller o c → (n t : Execution) →
-    Valid o (n ++ t) → StaysInside c n → stands_in c lane.group t ≡ true → IsLinked o lane t →
+    Valid o (n ++ t) → StaysInside c n → stands_in c lane.group t ≡ true → IsLinkedLane o lane t →
     IsInRange lane k → look (rows lane.group t) k ≡ Some q →
     look (rows lane.group (n ++ t)) k ≡ Some q
 row_stays o lane c k q is n t valid stay s w range e =
@@ -141,8 +141,8 @@ row_stays o lane c k q is n t valid stay s w range e =
 -- three moments of a stay, and from which key on the link leads to the first row at each
 module _ (o : Opening) (lane : Lane) (c low : ℕ) (is : IsCaller o c) (up : lane.low ≤ low)
     (l n t : Execution) (valid : Valid o (l ++ (n ++ t))) (stay : StaysInside c n)
-    (later : StaysInside c l) (s : stands_in c lane.group t ≡ true) (first : IsLinked o lane t)
-    (between : IsLinked o lane (n ++ t)) (last : IsLinked o lane (l ++ (n ++ t))) where
+    (later : StaysInside c l) (s : stands_in c lane.group t ≡ true) (first : IsLinkedLane o lane t)
+    (between : IsLinkedLane o lane (n ++ t)) (last : IsLinkedLane o lane (l ++ (n ++ t))) where
   abbrev mid : Execution
   mid = n ++ t
 
@@ -208,7 +208,7 @@ module _ (o : Opening) (lane : Lane) (c low : ℕ) (is : IsCaller o c) (up : lan
 pub lane_no_return : LeftLaneLinksDoNotComeBack
 lane_no_return o lane c q is l n t valid stay later s first between last into e = ⊎_elim
     (λ (z : q ≡ 0).
-    let head = λ (u : Execution) (x : IsLinked o lane u).
+    let head = λ (u : Execution) (x : IsLinkedLane o lane u).
     ap (λ (y : ℕ). word o u (lane_link lane y)) z ∙ x.head in
     head (n ++ t) between
     ∙ (back o lane c lane.low is (omega arith) l n t valid stay later s first between last
@@ -220,7 +220,7 @@ lane_no_return o lane c q is l n t valid stay later s first between last into e 
     let some = row_place o t lane.group z.0 q (valid_before o n t valid_m) z.1 in
     let here_m = place_on o c lane.group is q z.0 n t valid_m stay s (inr z.1) ∙ z.1 in
     let here_l = place_on o c lane.group is q z.0 l (n ++ t) valid later s_m (inr here_m) ∙ here_m in
-    let link = λ (u : Execution) (x : IsLinked o lane u) (here : role o q u ≡ InBuffer lane.group z.0).
+    let link = λ (u : Execution) (x : IsLinkedLane o lane u) (here : role o q u ≡ InBuffer lane.group z.0).
     ap (word o u) (row_link q some) ∙ x.links z.0 q here z.2 in
     let low = (z.2).0 in
     link (n ++ t) between here_m

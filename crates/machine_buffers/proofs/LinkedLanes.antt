@@ -10,7 +10,7 @@ use Rattle.index_machine.specs.declared.opening.Opening.{Opening}
 use Rattle.machine_buffers.proofs.NextRows.{HasNoneFrom, IsFirstBefore, IsGap, from_before_put}
 use Rattle.machine_buffers.proofs.NextRows.{from_behind_put, from_gap_put, from_over_gap, here_before, put_outside}
 use Rattle.machine_buffers.proofs.NextRows.{less_or_not, row_or_none}
-use Rattle.machine_buffers.specs.Lanes.{IsBefore, IsInRange, IsLinked, Lane}
+use Rattle.machine_buffers.specs.Lanes.{IsBefore, IsInRange, IsLinkedLane, Lane}
 use Rattle.machine_buffers.specs.Lanes.{KeepsLane, LinksInto, before_end, lane_link}
 use Rattle.machine_buffers.specs.Lanes.{place_of_row, link_from}
 use Rattle.machine_places.proofs.Forms.{some_is}
@@ -45,7 +45,7 @@ LeadsFrom o lane q t =
     × (((q ≡ 0) × (low ≡ lane.low))
     ⊎ ((j : ℕ) × (role o q t ≡ InBuffer lane.group j) × IsInRange lane j × (low ≡ j + 1)))
 
-pub leads_from : (o : Opening) (lane : Lane) (q : ℕ) (t : Execution) → IsLinked o lane t →
+pub leads_from : (o : Opening) (lane : Lane) (q : ℕ) (t : Execution) → IsLinkedLane o lane t →
     (q ≡ 0) ⊎ ((j : ℕ) × (role o q t ≡ InBuffer lane.group j) × IsInRange lane j) →
     LeadsFrom o lane q t
 leads_from o lane zero t is into = (lane.low, is.head, omega arith, inl (refl, refl))
@@ -61,7 +61,7 @@ leads_from o lane (suc n) t is into = ⊎_elim
 module _ (o : Opening) (lane : Lane) (k p before : ℕ) (t later : Execution)
     (rising : IsRising (rows lane.group t)) (listed : RowsAreListed o t)
     (some : (j q : ℕ) → role o q t ≡ InBuffer lane.group j → q ≢ 0)
-    (old : IsLinked o lane t) (links : LinksInto o lane k p before t later) where
+    (old : IsLinkedLane o lane t) (links : LinksInto o lane k p before t later) where
   abbrev m : Map
   m = rows lane.group t
 
@@ -199,7 +199,7 @@ module _ (o : Opening) (lane : Lane) (k p before : ℕ) (t later : Execution)
       ∙ (link_of_new ∙ ap (λ (y : ℕ). link_from lane.end (y + 1) (put m k p)) same))
       (λ (n : p ≢ q). link_of_old j q (links.came j q e is n) is)
 
-  pub linked_on : IsLinked o lane later
+  pub linked_on : IsLinkedLane o lane later
   linked_on = record {
     head = head_now ∙ ap (link_from lane.end lane.low) (sym links.rows);
     links = λ j q e is. links_now j q e is ∙ ap (link_from lane.end (j + 1)) (sym links.rows);
@@ -210,7 +210,7 @@ module _ (o : Opening) (lane : Lane) (k p before : ℕ) (t later : Execution)
 -- ---- a lane into which none is linked ----
 
 module _ (o : Opening) (lane : Lane) (t later : Execution) (rising : IsRising (rows lane.group t))
-    (old : IsLinked o lane t) (keeps : KeepsLane o lane t later) where
+    (old : IsLinkedLane o lane t) (keeps : KeepsLane o lane t later) where
   -- a link from within the range leads to what was there
   same_link : (low : ℕ) → lane.low ≤ low →
       link_from lane.end low (rows lane.group later) ≡ link_from lane.end low (rows lane.group t)
@@ -237,7 +237,7 @@ module _ (o : Opening) (lane : Lane) (t later : Execution) (rising : IsRising (r
       ∙ (ap (λ (m : Map). look m k) (sym z.4) ∙ e)) is) is)
       keeps.rows
 
-  pub linked_kept : IsLinked o lane later
+  pub linked_kept : IsLinkedLane o lane later
   linked_kept = record {
     head = keeps.head ∙ (old.head ∙ sym (same_link lane.low (omega arith)));
     links = λ k place e is.

@@ -16,7 +16,7 @@ use Rattle.index_machine.specs.declared.opening.Opening.{Opening}
 use Rattle.machine_buffers.proofs.LinkWords.{behind_other, behind_row, head_first, head_later}
 use Rattle.machine_buffers.proofs.LinkedLanes.{linked_on}
 use Rattle.machine_buffers.specs.Groups.{IsOutOfUse}
-use Rattle.machine_buffers.specs.Lanes.{IsLinked, LinksInto, buffer_lane, lane_link}
+use Rattle.machine_buffers.specs.Lanes.{IsLinkedLane, LinksInto, buffer_lane, lane_link}
 use Rattle.machine_buffers.specs.Walks.{IsWalkable, LinksLeadOn}
 use Rattle.machine_places.proofs.Forms.{some_is}
 use Rattle.machine_readers.proofs.Buffers.{listed}
@@ -70,7 +70,7 @@ module _ (o : Opening) (t : Execution) (b h p : ℕ) (c : Change) (before next :
       (λ z. out.unawaited k z.2) may.belongs))
       (old.walkable h)
 
-  linked : IsLinked o (buffer_lane h) t
+  linked : IsLinkedLane o (buffer_lane h) t
   linked = record {
     head = walk.head;
     links = λ j q e is. old.links h j q e;
@@ -125,7 +125,7 @@ module _ (o : Opening) (t : Execution) (b h p : ℕ) (c : Change) (before next :
     came = λ j q e is n. sym (role_else q n) ∙ e;
   }
 
-  pub lane_on : IsLinked o (buffer_lane h) T
+  pub lane_on : IsLinkedLane o (buffer_lane h) T
   lane_on = linked_on o (buffer_lane h) k p before t T (old.rising h) (all_listed o t valid)
       (λ j q e. row_place o t h j q valid e) linked links
 

@@ -22,7 +22,7 @@ pub look_first : (r : ℕ × ℕ) (rs : Map) → look (r ∷ rs) r.0 ≡ Some r.
 unfolding look
 look_first r rs = grind (arith, nat_tests)
 
-look_other : (r : ℕ × ℕ) (rs : Map) (k : ℕ) → r.0 ≢ k → look (r ∷ rs) k ≡ look rs k
+pub look_other : (r : ℕ × ℕ) (rs : Map) (k : ℕ) → r.0 ≢ k → look (r ∷ rs) k ≡ look rs k
 unfolding look
 look_other r rs k other = grind (arith, nat_tests)
 

@@ -19,7 +19,7 @@ use Rattle.index_machine.specs.declared.opening.Opening.{Opening}
 use Rattle.machine_barriers.proofs.OpenedGroups.{begun_back, frozen_not, gone_on, open_not}
 use Rattle.machine_barriers.proofs.OpenedGroups.{opened_back, opened_groups_hold}
 use Rattle.machine_buffers.specs.Groups.{Begins, FrozenAreChained, FrozenGroupsAnswer, IsOutOfUse}
-use Rattle.machine_buffers.specs.Groups.{NewGroupsAreOpen, NewGroupsAwait, OpenedAreNotNew}
+use Rattle.machine_buffers.specs.Groups.{NewGroupsAreOpen, NewAreOpenOrChained, OpenedAreNotNew}
 use Rattle.machine_buffers.specs.Groups.{OpenedGroupsAreNotNew}
 use Rattle.machine_places.proofs.Forms.{named_before, none_some, some_is}
 use Rattle.word_layout.specs.declared.phase.Phase.{Phase}
@@ -115,7 +115,7 @@ await_phase : (h g : ℕ) (x y : Phase) → h ≢ g → y ≡ Open → cond (h =
 await_phase h g x y n e = choice-other h g x y n ∙ e
 
 await_step : (o : Opening) (t : Execution) (b : ℕ) (d : Action) → Allowed o t b d →
-    NewGroupsAwait o t → NewGroupsAwait o (event b d ∷ t)
+    NewAreOpenOrChained o t → NewAreOpenOrChained o (event b d ∷ t)
 await_step o t b (Freeze h) may old k g e = ⊎_elim
     (λ (z : group_of o k t ≡ g). inl z)
     (λ (z : ((j : ℕ) → group_of o j t ≢ g) × (phase g t ≡ Open)).
@@ -193,7 +193,7 @@ new_groups_await o (e ∷ t) valid =
     await_step o t e.by e.action valid.0 (new_groups_await o t valid.1)
 
 not_new_step : (o : Opening) (t : Execution) (b : ℕ) (d : Action) → Allowed o t b d →
-    NewGroupsAwait o t → OpenedAreNotNew o t → OpenedAreNotNew o (event b d ∷ t)
+    NewAreOpenOrChained o t → OpenedAreNotNew o t → OpenedAreNotNew o (event b d ∷ t)
 not_new_step o t b (Freeze h) may await old k g f e s =
     old k g f (opened_back h g Frozen (phase g t) f frozen_not e).1 s
 not_new_step o t b (Thaw h) may await old k g f e s =

@@ -21,8 +21,8 @@ use Rattle.machine_barriers.proofs.OpenedGroups.{opened_groups_hold}
 use Rattle.machine_barriers.proofs.Reaches.{may_as}
 use Rattle.machine_buffers.proofs.OutOfUse.{begins_or_not, group_in, group_out, new_groups_await}
 use Rattle.machine_buffers.proofs.OutOfUse.{out_on, replaced_out}
-use Rattle.machine_buffers.specs.Groups.{Begins, HasInRange, IsOutOfUse}
-use Rattle.machine_buffers.specs.Walks.{RowsAreInRange, RowsAreOfTheirStretch}
+use Rattle.machine_buffers.specs.Groups.{Begins, IsKeyOf, IsOutOfUse}
+use Rattle.machine_buffers.specs.Walks.{RowsHaveKeysOfTheirGroup, RowsOfTheChainAreInRange}
 use Rattle.machine_readers.proofs.InstalledRedirects.{remembered_back}
 use Rattle.machine_places.proofs.Forms.{none_some, some_is, still_named}
 use Rattle.machine_readers.proofs.AwaitedGroups.{belongs_on}
@@ -33,11 +33,11 @@ use Rattle.word_layout.specs.declared.phase.Phase.TheVariants.{Open, Opened}
 
 -- the key is in the group's range, or the group is out of use
 abbrev pub IsKept : Opening → ℕ → ℕ → Execution → Type 0
-IsKept o g k t = HasInRange o g k t ⊎ IsOutOfUse o g t
+IsKept o g k t = IsKeyOf o g k t ⊎ IsOutOfUse o g t
 
 -- the group of a key, as another comes in its place
 kept_install : (o : Opening) (t : Execution) (b : ℕ) (spot : InstallWord) (lead low high g k : ℕ) →
-    Valid o t → Allowed o t b (Install spot lead low high) → HasInRange o g k t →
+    Valid o t → Allowed o t b (Install spot lead low high) → IsKeyOf o g k t →
     IsKept o g k (event b (Install spot lead low high) ∷ t)
 kept_install o t b spot lead low high g k valid may of = go (within low k high) refl of
   where
@@ -63,7 +63,7 @@ kept_install o t b spot lead low high g k valid may of = go (within low k high) 
           λ h e. (opened_groups_hold o t valid).past (group_of o k t) m.0 h p.0 m.2 p.2 e,
         )
 
-    go : (w : Bool) → within low k high ≡ w → HasInRange o g k t → IsKept o g k T
+    go : (w : Bool) → within low k high ≡ w → IsKeyOf o g k t → IsKept o g k T
     go false z of = ⊎_elim
         (λ (x : IsBufferFor o k g t). ⊎_elim
         (λ (y : group_of o k t ≡ g). inl (inl (inl (group false z ∙ y))))
@@ -80,7 +80,7 @@ kept_install o t b spot lead low high g k valid may of = go (within low k high) 
 
 -- as another group is begun anew
 kept_new : (o : Opening) (t : Execution) (b n low high i g k : ℕ) → Valid o t →
-    Allowed o t b (NewGroup n low high i) → g ≢ n → HasInRange o g k t →
+    Allowed o t b (NewGroup n low high i) → g ≢ n → IsKeyOf o g k t →
     IsKept o g k (event b (NewGroup n low high i) ∷ t)
 kept_new o t b n low high i g k valid may other of = ⊎_elim
     (λ (x : IsBufferFor o k g t). ⊎_elim
@@ -107,7 +107,7 @@ kept_new o t b n low high i g k valid may other of = ⊎_elim
 
 -- a row that was there is of a key in range still
 kept_step : (o : Opening) (t : Execution) (b : ℕ) (d : Action) (g k q : ℕ) → Valid o t →
-    Allowed o t b d → role o q t ≡ InBuffer g k → HasInRange o g k t →
+    Allowed o t b d → role o q t ≡ InBuffer g k → IsKeyOf o g k t →
     IsKept o g k (event b d ∷ t)
 kept_step o t b (Install spot lead low high) g k q valid may e of =
     kept_install o t b spot lead low high g k valid may of
@@ -123,17 +123,17 @@ kept_step o t b d g k q valid may e of = ⊎_elim
 
 -- so is one that is linked
 linked_in_range : (o : Opening) (t : Execution) (b g q k : ℕ) (d : Action) → Allowed o t b d →
-    IsLinkOf g q k d → HasInRange o g k (event b d ∷ t)
+    IsLinkOf g q k d → IsKeyOf o g k (event b d ∷ t)
 linked_in_range o t b g q k d may is =
-    subst (λ (x : Action). HasInRange o g k (event b x ∷ t)) (sym is.3)
-    (subst (λ (j : ℕ). HasInRange o g j (event b (LinkRow g q is.0 is.1 is.2) ∷ t)) is.4
+    subst (λ (x : Action). IsKeyOf o g k (event b x ∷ t)) (sym is.3)
+    (subst (λ (j : ℕ). IsKeyOf o g j (event b (LinkRow g q is.0 is.1 is.2) ∷ t)) is.4
     (inl (may_as o t b d (LinkRow g q is.0 is.1 is.2) is.3 may).belongs))
 
-pub in_range : RowsAreInRange
+pub in_range : RowsHaveKeysOfTheirGroup
 in_range o [] valid g k q e = absurd (opening_role-buffer o q g k e)
 in_range o (x ∷ t) valid g k q e = ⊎_elim
     (λ (there : role o q t ≡ InBuffer g k). ⊎_elim
-    (λ (of : HasInRange o g k t). kept_step o t x.by x.action g k q valid.1 valid.0 there of)
+    (λ (of : IsKeyOf o g k t). kept_step o t x.by x.action g k q valid.1 valid.0 there of)
     (λ (out : IsOutOfUse o g t). ⊎_elim
     (λ (z : Begins g x.action).
     absurd ((may_as o t x.by x.action (NewGroup g z.0 z.1 z.2) z.3 valid.0).no_row q k there))
@@ -200,9 +200,9 @@ groups_before_are_unowned o [] valid = λ k g e. none_some e
 groups_before_are_unowned o (e ∷ t) valid =
     unowned_step o t e.by e.action valid.1 valid.0 (groups_before_are_unowned o t valid.1)
 
-pub in_stretch : RowsAreOfTheirStretch
+pub in_stretch : RowsOfTheChainAreInRange
 in_stretch o t valid g j k q own e = ⊎_elim
-    (λ (of : HasInRange o g k t). ⊎_elim
+    (λ (of : IsKeyOf o g k t). ⊎_elim
     (λ (x : IsBufferFor o k g t). ⊎_elim
     (λ (y : group_of o k t ≡ g). y)
     (λ (y : (f : ℕ) × (phase (group_of o k t) t ≡ Opened f) × (successor k t ≡ Some g)).

@@ -20,7 +20,7 @@ use Rattle.machine_buffers.proofs.LaneWalks.{into_lane, lane_decides, lane_no_re
 use Rattle.machine_buffers.proofs.LaneWalks.{row_stays}
 use Rattle.machine_buffers.proofs.Phases.{true_or_out, true_while}
 use Rattle.machine_buffers.proofs.Walkable.{IsEmpty, buffers_hold, walk_on}
-use Rattle.machine_buffers.specs.Groups.{Answers, Begins, IsOutOfUse}
+use Rattle.machine_buffers.specs.Groups.{IsOfAKey, Begins, IsOutOfUse}
 use Rattle.machine_buffers.specs.Lanes.{IsInRange, IsLaneLink, buffer_lane, lane_link}
 use Rattle.machine_buffers.specs.Phases.{PhasesBeforeAreTrue, PhasesOfKeysAreTrue, TruePhasesStay}
 use Rattle.machine_buffers.specs.Walks.{BuffersBeforeAreWalkable, BuffersOfKeysAreWalkable}
@@ -39,7 +39,7 @@ use Rattle.machine_readers.proofs.StandingCallers.{groups_before_are_opened}
 
 -- ---- which buffers ----
 
-answers_used : (o : Opening) (t : Execution) (g : ℕ) → Answers o g t → IsOutOfUse o g t → ⊥
+answers_used : (o : Opening) (t : Execution) (g : ℕ) → IsOfAKey o g t → IsOutOfUse o g t → ⊥
 answers_used o t g used out = ⊎_elim
     (λ (z : (k : ℕ) × (group_of o k t ≡ g)). out.unowned z.0 z.1)
     (λ (z : (k : ℕ) × (successor k t ≡ Some g)). out.unawaited z.0 z.1) used

@@ -1,4 +1,4 @@
--- Which keys are of a group, which groups are out of use, so that their rows may be taken out and their
+-- Which keys are a group's, which groups are out of use, so that their rows may be taken out and their
 -- headers refilled; and what the phases of groups say of both.
 use Rattle.std.specs.Prelude.{◌≡◌, ◌≢◌, ◌⊎◌, ℕ, Some}
 use Rattle.index_machine.specs.declared.opening.Opening.{Opening}
@@ -13,8 +13,8 @@ use Rattle.index_machine.specs.Permissions.{IsBufferFor}
 use Rattle.index_machine.specs.RebuildConditions.{IsSettled}
 
 -- the group answers for a key, or is a key's new group
-abbrev pub Answers : Opening → ℕ → Execution → Type 0
-Answers o group t =
+abbrev pub IsOfAKey : Opening → ℕ → Execution → Type 0
+IsOfAKey o group t =
     ((k : ℕ) × (group_of o k t ≡ group)) ⊎ ((k : ℕ) × (successor k t ≡ Some group))
 
 -- the group answers for no key, is no key's new group, and if it was opened to a rebuild, all groups
@@ -24,10 +24,10 @@ pub record IsOutOfUse (o : Opening) (group : ℕ) (t : Execution) : Type 0 where
   pub unawaited : (k : ℕ) → successor k t ≢ Some group
   pub settled : IsSettled o group t
 
--- the key is in the group's range: the group answers for it, or is to and its old group is opened, or did
+-- the key is one of the group's: the group answers for it, or is to and its old group is opened, or did
 -- before the last install
-abbrev pub HasInRange : Opening → ℕ → ℕ → Execution → Type 0
-HasInRange o group k t = IsBufferFor o k group t ⊎ (predecessor o k t ≡ Some group)
+abbrev pub IsKeyOf : Opening → ℕ → ℕ → Execution → Type 0
+IsKeyOf o group k t = IsBufferFor o k group t ⊎ (predecessor o k t ≡ Some group)
 
 -- the action begins this group anew
 abbrev pub Begins : ℕ → Action → Type 0
@@ -41,8 +41,8 @@ abbrev pub FrozenAreChained : Opening → Execution → Type 0
 FrozenAreChained o t = (group : ℕ) → phase group t ≡ Frozen → (k : ℕ) × (group_of o k t ≡ group)
 
 -- a key's new group is the key's group already, or is open and answers for no key yet
-abbrev pub NewGroupsAwait : Opening → Execution → Type 0
-NewGroupsAwait o t =
+abbrev pub NewAreOpenOrChained : Opening → Execution → Type 0
+NewAreOpenOrChained o t =
     (k group : ℕ) → successor k t ≡ Some group →
     (group_of o k t ≡ group) ⊎ (((j : ℕ) → group_of o j t ≢ group) × (phase group t ≡ Open))
 
@@ -59,7 +59,7 @@ FrozenGroupsAnswer = (o : Opening) (t : Execution) → Valid o t → FrozenAreCh
 
 -- each new group that is not in the chain yet is open
 abbrev pub NewGroupsAreOpen : Type 0
-NewGroupsAreOpen = (o : Opening) (t : Execution) → Valid o t → NewGroupsAwait o t
+NewGroupsAreOpen = (o : Opening) (t : Execution) → Valid o t → NewAreOpenOrChained o t
 
 -- no opened group is a new one
 abbrev pub OpenedGroupsAreNotNew : Type 0

@@ -43,7 +43,7 @@ OpenedBuffersWithoutValueStay =
     BufferHasNone o (newer ++ t) group k
 
 -- a caller that saw its group open, and found no value in the array, may link at each moment of its
--- stay at which the key has no row
+-- read section at which the key has no row
 abbrev pub MayLinkWhereSeenOpen : Type 0
 MayLinkWhereSeenOpen =
     (o : Opening) (caller group k : ℕ) → IsCaller o caller → (later newer t : Execution) →
@@ -65,7 +65,7 @@ MayLinkBehindOpened =
     look (rows new (newer ++ t)) k ≡ None → IsNewKeyFor o k new (newer ++ t)
 
 -- where the array of the key's group has no value for it, and the key has no row at a later moment of the
--- stay, the key is not in the map then, unless the group was opened by that moment
+-- read section, the key is not in the map then, unless the group was opened by that moment
 abbrev pub GapsAreAbsent : Type 0
 GapsAreAbsent =
     (o : Opening) (caller group k : ℕ) → IsCaller o caller → (newer t : Execution) →

@@ -79,7 +79,7 @@ next_row_behind lane k m = link_from lane.end (k + 1) m
 
 -- the rows of the lane are linked from its head in the order of their keys, and all that were linked stand
 -- in the buffer
-pub record IsLinked (o : Opening) (lane : Lane) (t : Execution) : Type 0 where
+pub record IsLinkedLane (o : Opening) (lane : Lane) (t : Execution) : Type 0 where
   pub head : word o t lane.head ≡ first_row lane (rows lane.group t)
   pub links : (k place : ℕ) → role o place t ≡ InBuffer lane.group k → IsInRange lane k →
       word o t (PlaceWord place Link) ≡ next_row_behind lane k (rows lane.group t)
@@ -153,31 +153,31 @@ pub record KeepsLane (o : Opening) (lane : Lane) (t later : Execution) : Type 0 
 abbrev pub LinkedRowsTakeTheirPlace : Type 0
 LinkedRowsTakeTheirPlace =
     (o : Opening) (lane : Lane) (k place before : ℕ) (t later : Execution) → Valid o t →
-    IsLinked o lane t → LinksInto o lane k place before t later → IsLinked o lane later
+    IsLinkedLane o lane t → LinksInto o lane k place before t later → IsLinkedLane o lane later
 
 -- a lane into which none is linked stays linked, whatever is linked into other lanes of the group
 abbrev pub OtherLanesStayLinked : Type 0
 OtherLanesStayLinked =
-    (o : Opening) (lane : Lane) (t later : Execution) → Valid o t → IsLinked o lane t →
-    KeepsLane o lane t later → IsLinked o lane later
+    (o : Opening) (lane : Lane) (t later : Execution) → Valid o t → IsLinkedLane o lane t →
+    KeepsLane o lane t later → IsLinkedLane o lane later
 
 -- what a link of a linked lane leads to is a row of it, or none
 abbrev pub LaneLinksLeadIntoTheLane : Type 0
 LaneLinksLeadIntoTheLane =
-    (o : Opening) (lane : Lane) (before : ℕ) (t : Execution) → Valid o t → IsLinked o lane t →
+    (o : Opening) (lane : Lane) (before : ℕ) (t : Execution) → Valid o t → IsLinkedLane o lane t →
     IsLaneLink o lane before t → IsLaneLink o lane (word o t (lane_link lane before)) t
 
 -- it decides of a key that it stands before, unless it leads to a smaller one
 abbrev pub LaneLinksDecide : Type 0
 LaneLinksDecide =
-    (o : Opening) (lane : Lane) (k before : ℕ) (t : Execution) → Valid o t → IsLinked o lane t →
+    (o : Opening) (lane : Lane) (k before : ℕ) (t : Execution) → Valid o t → IsLinkedLane o lane t →
     IsInRange lane k → IsLaneLinkBefore o lane k before t →
     LaneDecides o lane k (word o t (lane_link lane before)) t
 
 -- the row behind another one has a greater key
 abbrev pub LaneLinksRise : Type 0
 LaneLinksRise =
-    (o : Opening) (lane : Lane) (place i j : ℕ) (t : Execution) → Valid o t → IsLinked o lane t →
+    (o : Opening) (lane : Lane) (place i j : ℕ) (t : Execution) → Valid o t → IsLinkedLane o lane t →
     role o place t ≡ InBuffer lane.group i → IsInRange lane i →
     role o (word o t (PlaceWord place Link)) t ≡ InBuffer lane.group j → i < j
 
@@ -187,8 +187,8 @@ abbrev pub LeftLaneLinksDoNotComeBack : Type 0
 LeftLaneLinksDoNotComeBack =
     (o : Opening) (lane : Lane) (caller before : ℕ) → IsCaller o caller →
     (later newer t : Execution) → Valid o (later ++ (newer ++ t)) → StaysInside caller newer →
-    StaysInside caller later → stands_in caller lane.group t ≡ true → IsLinked o lane t →
-    IsLinked o lane (newer ++ t) → IsLinked o lane (later ++ (newer ++ t)) →
+    StaysInside caller later → stands_in caller lane.group t ≡ true → IsLinkedLane o lane t →
+    IsLinkedLane o lane (newer ++ t) → IsLinkedLane o lane (later ++ (newer ++ t)) →
     IsLaneLink o lane before t →
     word o (later ++ (newer ++ t)) (lane_link lane before) ≡ word o t (lane_link lane before) →
     word o (newer ++ t) (lane_link lane before) ≡ word o t (lane_link lane before)

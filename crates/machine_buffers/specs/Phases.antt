@@ -10,12 +10,12 @@ use Rattle.index_machine.specs.Permissions.{MayInsertInto}
 use Rattle.index_machine.specs.Reaching.{stands_in}
 use Rattle.index_machine.specs.Represents.{has_stale_phase}
 use Rattle.index_machine.specs.Conditions.{Valid}
-use Rattle.machine_buffers.specs.Groups.{Answers}
+use Rattle.machine_buffers.specs.Groups.{IsOfAKey}
 
 -- the phase word of a group that answers for a key, or that is a key's new group, is not stale
 abbrev pub PhasesOfKeysAreTrue : Type 0
 PhasesOfKeysAreTrue =
-    (o : Opening) (t : Execution) → Valid o t → (group : ℕ) → Answers o group t →
+    (o : Opening) (t : Execution) → Valid o t → (group : ℕ) → IsOfAKey o group t →
     has_stale_phase group t ≡ false
 
 -- nor that of the group that had a key before, while a caller stands there

@@ -20,8 +20,8 @@ use Rattle.index_machine.specs.Reaching.{stands_in}
 use Rattle.index_machine.specs.RecordConditions.{IsLinkInto}
 use Rattle.index_machine.specs.Conditions.{Valid}
 use Rattle.machine_readers.specs.Buffers.{rows}
-use Rattle.machine_buffers.specs.Lanes.{IsLinked, buffer_lane, first_row, next_row_behind}
-use Rattle.machine_buffers.specs.Groups.{Answers, Begins, HasInRange, IsOutOfUse}
+use Rattle.machine_buffers.specs.Lanes.{IsLinkedLane, buffer_lane, first_row, next_row_behind}
+use Rattle.machine_buffers.specs.Groups.{IsOfAKey, Begins, IsKeyOf, IsOutOfUse}
 
 -- ---- rows ----
 
@@ -89,15 +89,15 @@ LinksLeadToTheNextRow = (o : Opening) (t : Execution) → Valid o t → LinksLea
 abbrev pub KeysOfRowsRise : Type 0
 KeysOfRowsRise = (o : Opening) (t : Execution) → Valid o t → (group : ℕ) → IsRising (rows group t)
 
--- each row is of a key in its group's range, unless the group is out of use
-abbrev pub RowsAreInRange : Type 0
-RowsAreInRange =
+-- each row is of a key of its group, unless the group is out of use
+abbrev pub RowsHaveKeysOfTheirGroup : Type 0
+RowsHaveKeysOfTheirGroup =
     (o : Opening) (t : Execution) → Valid o t → (group k place : ℕ) →
-    role o place t ≡ InBuffer group k → HasInRange o group k t ⊎ IsOutOfUse o group t
+    role o place t ≡ InBuffer group k → IsKeyOf o group k t ⊎ IsOutOfUse o group t
 
 -- of a group that answers for a key, each row is of a key for which it answers
-abbrev pub RowsAreOfTheirStretch : Type 0
-RowsAreOfTheirStretch =
+abbrev pub RowsOfTheChainAreInRange : Type 0
+RowsOfTheChainAreInRange =
     (o : Opening) (t : Execution) → Valid o t → (group j k place : ℕ) → group_of o j t ≡ group →
     role o place t ≡ InBuffer group k → group_of o k t ≡ group
 
@@ -121,7 +121,7 @@ LinkedRowsStay =
 -- the buffer of a group that answers for a key, or that is a key's new group, is walkable
 abbrev pub BuffersOfKeysAreWalkable : Type 0
 BuffersOfKeysAreWalkable =
-    (o : Opening) (t : Execution) → Valid o t → (group : ℕ) → Answers o group t →
+    (o : Opening) (t : Execution) → Valid o t → (group : ℕ) → IsOfAKey o group t →
     IsWalkable o group t
 
 -- so is that of the group that had a key before, while a caller stands there
@@ -159,7 +159,7 @@ WholeBuffersStayWalkable =
 abbrev pub WalkableBuffersAreLinked : Type 0
 WalkableBuffersAreLinked =
     (o : Opening) (t : Execution) → Valid o t → (group : ℕ) → IsWalkable o group t →
-    IsLinked o (buffer_lane group) t
+    IsLinkedLane o (buffer_lane group) t
 
 -- ---- the laws of links ----
 

@@ -20,7 +20,7 @@ ghost use Rattle.machine_buffers.specs.Walks.{LinksBeforeAKeyDecide};
 ghost use Rattle.machine_buffers.specs.Walks.{LinksBeforeAKeyStay, LinksLeadIntoTheBuffer};
 ghost use Rattle.machine_buffers.specs.Walks.{LinksLeadToTheNextRow, LinksRise};
 ghost use Rattle.machine_buffers.specs.Walks.{LinkedRowsStayUntilBegun, OldBuffersAreWalkable};
-ghost use Rattle.machine_buffers.specs.Walks.{RowsAreInRange, RowsAreOfTheirStretch};
+ghost use Rattle.machine_buffers.specs.Walks.{RowsHaveKeysOfTheirGroup, RowsOfTheChainAreInRange};
 ghost use Rattle.machine_buffers.specs.Walks.{WalkableBuffersAreLinked, WalkableBuffersStay};
 ghost use Rattle.machine_buffers.specs.Walks.{WholeBuffersStayWalkable};
 
@@ -65,14 +65,14 @@ pub fn keys_of_rows_rise()
     ensures { KeysOfRowsRise }
 {}
 
-/// Each row is of a key in its group's range, unless the group is out of use.
-pub fn rows_are_in_range()
-    ensures { RowsAreInRange }
+/// Each row is of a key of its group, unless the group is out of use.
+pub fn rows_have_keys_of_their_group()
+    ensures { RowsHaveKeysOfTheirGroup }
 {}
 
-/// Of a group that answers for a key, each row is of a key for which it answers.
-pub fn rows_are_of_their_stretch()
-    ensures { RowsAreOfTheirStretch }
+/// In a group of the chain each row is of a key in the group's key range.
+pub fn rows_of_the_chain_are_in_range()
+    ensures { RowsOfTheChainAreInRange }
 {}
 
 /// Rows are only added to a buffer, until its group is begun anew.
@@ -96,7 +96,7 @@ pub fn buffers_of_keys_are_walkable()
     ensures { BuffersOfKeysAreWalkable }
 {}
 
-/// So it does in the group that had a key before, for a caller that came late.
+/// So it does in the group that had a key before, while a caller stands in it.
 pub fn buffers_before_are_walkable()
     ensures { BuffersBeforeAreWalkable }
 {}
@@ -166,7 +166,7 @@ pub fn phases_of_keys_are_true()
     ensures { PhasesOfKeysAreTrue }
 {}
 
-/// So does that of the group that had a key before, for a caller that came late.
+/// Nor is that of the group that had a key before, while a caller stands in it.
 pub fn phases_before_are_true()
     ensures { PhasesBeforeAreTrue }
 {}
@@ -181,7 +181,7 @@ pub fn opened_phases_stay()
     ensures { OpenedPhasesStay }
 {}
 
-/// Leave to insert that a caller has lasts as long as its read section.
+/// Leave to insert lasts as long as the read section in which a caller has it.
 pub fn leave_to_insert_stays()
     ensures { LeaveToInsertStays }
 {}
@@ -208,8 +208,8 @@ pub fn may_link_behind_opened()
     ensures { MayLinkBehindOpened }
 {}
 
-/// A key that has no value in the array of its group, and no row at a later moment of a stay, is not in the
-/// map then, unless the group was opened.
+/// A key that has no value in the array of its group, and no row at a later moment of the read section, is
+/// not in the map then, unless the group was opened.
 pub fn gaps_are_absent()
     ensures { GapsAreAbsent }
 {}

@@ -16,6 +16,7 @@ pub use laws::{
     links_lead_to_the_next_row, links_rise, may_link_behind_opened, may_link_where_seen_open,
     new_groups_are_open, old_buffers_are_walkable, opened_buffers_without_value_stay,
     opened_groups_are_not_new, opened_phases_stay, other_lanes_stay_linked, phases_before_are_true,
-    phases_of_keys_are_true, rows_are_in_range, rows_are_of_their_stretch, true_phases_stay,
-    walkable_buffers_are_linked, walkable_buffers_stay, whole_buffers_stay_walkable,
+    phases_of_keys_are_true, rows_have_keys_of_their_group, rows_of_the_chain_are_in_range,
+    true_phases_stay, walkable_buffers_are_linked, walkable_buffers_stay,
+    whole_buffers_stay_walkable,
 };

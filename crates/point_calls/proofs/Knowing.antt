@@ -137,15 +137,6 @@ in_all b start h [] k kept all i = subst (IsIn b start) (sym all) i
 in_all b start h (d ∷ actions) k kept all i =
     in_step b start all.0 k d kept.0 kept.1 all.2 (in_all b start h actions all.0 kept.2 all.1 i)
 
--- and what it walked over is behind what it knew
-pub walk_since : (b : Board) (g : ℕ) (start h : Hand) (actions : List Action) (k : Hand) →
-    AreWalkOf g actions → MakesAll b h actions k → IsIn b start h → Continues (known h) (known k)
-walk_since b g start h [] k are all i = ([], ap known (sym all))
-walk_since b g start h (d ∷ actions) k are all i =
-    continues_trans (known h) (known all.0) (known k)
-    (walk_since b g start h actions all.0 are.1 all.1 i)
-    (goes_on b all.0 k d (in_walk b g start h actions all.0 are.1 all.1 i).of all.2)
-
 -- a step that was made after the call began is one of the call
 pub made_in : (b : Board) (start h k : Hand) (d : Action) → IsIn b start h → Makes b h d k →
     MakesIn start d k

@@ -1,8 +1,5 @@
 //! A new row for a key is linked.
-ghost use Rattle.std.specs.Prelude.{◌≡◌, ◌<◌, ◌^◌, MatchResult, None, Some};
-ghost use Rattle.word_layout.specs.Words.{address_of};
-ghost use Rattle.index_machine.specs.Words.{limits, link_behind};
-ghost use Rattle.index_rule.specs.Hands.{opening_of};
+ghost use Rattle.std.specs.Prelude.{◌≡◌, MatchResult, None, Some};
 ghost use Rattle.point_calls.specs.PointCalls.{CanCall, HasSpare, IsOneSection, OpensEmpty};
 ghost use Rattle.point_calls.specs.Putting.{HasFoundGap, IsFullOnly, MayLinkIn, PutTells};
 ghost use Rattle.point_calls.specs.Putting.{GetsNoRow, KeepsSpare};
@@ -12,7 +9,7 @@ use delta_buffer::insert;
 use index_rule::{Board, Hand, Linked, PrivateRow, Tried, Why};
 use row_arena::{Taken, fill, take};
 use std::snapshot::Snapshot;
-use word_layout::{Phase, link_word};
+use word_layout::Phase;
 
 /// Links a row for the key into the gap, tried once. It takes effect at the exchange of the
 /// link.
@@ -54,7 +51,7 @@ pub(crate) fn link_new(
         Linked::Raced { row, found } => {
             keep(spare, row);
             Tried::Again(Why::Raced {
-                place: link_address(board, gap.group, gap.before),
+                place: board.link_address(gap.group, gap.before),
                 expected: gap.next as u64,
                 found,
             })
@@ -85,7 +82,7 @@ fn own_row(
             Taken::Row(row) => Ok(row),
             Taken::Empty => Err(Tried::Full),
             Taken::Raced { expected, found } => Err(Tried::Again(Why::Raced {
-                place: 0,
+                place: board.layout().free_head(),
                 expected,
                 found,
             })),
@@ -101,19 +98,5 @@ fn keep(spare: &mut Option<PrivateRow>, row: PrivateRow)
 {
     if let Some(other) = spare.replace(row) {
         other.forget();
-    }
-}
-
-/// The address of the link behind a row, or of the head for 0.
-#[inline]
-fn link_address(board: &Board, group: u32, before: u32) -> u32
-    requires group { group < (limits (opening_of board.now)).groups }
-    requires place { before < 2 ^ 28 }
-    ensures { result ≡ address_of (limits (opening_of board.now)) (link_behind group before) }
-{
-    if before == 0 {
-        board.layout().header(group, 3)
-    } else {
-        link_word(before)
     }
 }

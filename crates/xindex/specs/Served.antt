@@ -35,7 +35,7 @@ pub record IsTold (i : Index) (seen : Execution) (number : ℕ) (p : Pass) : Typ
   pub none : log_of p ≡ []
   pub truthful : IsTruthful (caller_with i p)
 
--- so are they all, with the numbers from one on
+-- so are they all, with rising numbers from this one on
 abbrev pub AreTold : Index → Execution → ℕ → List Pass → Type 0
 AreTold i seen number [] = Unit {0}
 AreTold i seen number (p ∷ ps) = IsTold i seen number p × AreTold i seen (number + 1) ps

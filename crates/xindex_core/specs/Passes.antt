@@ -86,7 +86,7 @@ known_to_keeper keeper = known keeper.hand
 
 -- ---- a new index ----
 
--- passes that made no step yet, with the numbers from one on
+-- passes that made no step yet, with rising numbers from this one on
 abbrev pub AreNewPasses : Index → ℕ → List Pass → Type 0
 AreNewPasses i number [] = Unit {0}
 AreNewPasses i number (p ∷ ps) =

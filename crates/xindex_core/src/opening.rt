@@ -12,7 +12,8 @@ use std::alloc::{AllocError, Global};
 use word_layout::Limits;
 
 impl Index {
-    /// An index with these limits, which is empty. The table takes 8 bytes a word.
+    /// An index with these limits, which is empty: `rows` has to be so by now. The table takes 8 bytes a
+    /// word.
     ///
     /// Limits are refused before any memory is taken.
     pub fn open(alloc: Global, limits: Limits, rows: &[(u64, u64)]) -> Result<Opened, OpenError>

@@ -17,7 +17,8 @@ use std::thread;
 
 /// Answers calls over an index, one after another, by trying each of them until it comes to an answer.
 ///
-/// `Full` and `Worn` are answers. It takes no memory. A `Next` is answered for its first key alone.
+/// `Full` and `Worn` are answers. It takes no memory. A call takes effect where its last try does. A `Next`
+/// is answered for its first key alone.
 pub struct Waiter<'a, N: Name> {
     index: &'a Index,
     pass: Pass,

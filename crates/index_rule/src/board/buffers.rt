@@ -17,7 +17,7 @@ use crate::hand::Hand;
 use crate::plays::{LinksRow, LoadsHead, LoadsPhase, LoadsRowLink};
 use crate::rows::PrivateRow;
 use crate::swap::Linked;
-use word_layout::link_word;
+use word_layout::{HeaderWord, link_word};
 
 impl Board {
     /// Loads the head of a group's buffer: the place of the first row, or 0.
@@ -28,7 +28,7 @@ impl Board {
         requires may { CanWalk (opening_of self.now) hand.old.number group (known hand.old) }
         ensures { Makes self.now hand.old (LoadHead group result) hand.new }
     {
-        let address = self.layout.header(group, 3) as usize;
+        let address = self.layout.header(group, HeaderWord::BufferHead.number()) as usize;
         self.words.shared.load::<LoadsHead>(&mut hand.seat, address)
     }
 
@@ -54,7 +54,7 @@ impl Board {
         requires may { CanSeePhase (opening_of self.now) hand.old.number group (known hand.old) }
         ensures { Makes self.now hand.old (LoadPhase group result) hand.new }
     {
-        let address = self.layout.header(group, 4) as usize;
+        let address = self.layout.header(group, HeaderWord::Phase.number()) as usize;
         self.words
             .shared
             .load::<LoadsPhase>(&mut hand.seat, address)
@@ -92,15 +92,15 @@ impl Board {
         }
     }
 
-    // The address of the link behind a row, or of the head for 0.
+    /// The address of the link behind a row of a group's buffer, or of the buffer's head for 0.
     #[inline]
-    fn link_address(&self, group: u32, before: u32) -> u32
+    pub fn link_address(&self, group: u32, before: u32) -> u32
         requires group { group < (limits (opening_of self.now)).groups }
         requires place { before < 2 ^ 28 }
         ensures { result ≡ address_of (limits (opening_of self.now)) (link_behind group before) }
     {
         if before == 0 {
-            self.layout.header(group, 3)
+            self.layout.header(group, HeaderWord::BufferHead.number())
         } else {
             link_word(before)
         }

@@ -114,7 +114,7 @@ returns-in-Raced-clause-answer c =
       sym c.take.ensures.value ∙ c.in-None.is,
       c.in-Raced.ensures.holds,
       record {
-        is_address = refl;
+        is_address = c.free_head.ensures.address;
         steps = made_behind b h last k (LoadFree x) (FailPop x c.in-Raced.found) FreeHead
             may2.number may2.search.of
             (left_on b h one last (LoadFree x) (LoadFreeLink x s.2.0) FreeHead may1.number

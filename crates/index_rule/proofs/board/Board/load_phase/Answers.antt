@@ -1,6 +1,8 @@
-use Rattle.std.proofs.Common.{refl, subst}
+use Rattle.std.proofs.Common.{ℕ, ap, ◌∙◌, refl, subst}
 use Rattle.word_layout.specs.declared.headers.HeaderWord.TheVariants.{Phase}
-use Rattle.word_layout.specs.Words.{Word, Header}
+use Rattle.word_layout.specs.Headers.{header_word}
+use Rattle.word_layout.specs.Layout.{limits_of}
+use Rattle.word_layout.specs.Words.{Word, Header, address_of}
 use Rattle.index_rule.specs.Hands.{opening_of, view}
 use Rattle.index_rule.specs.Rule.{Acts}
 use Rattle.index_rule.specs.Steps.{phase_load}
@@ -13,7 +15,11 @@ load-requires c =
     let b = c.args.self.now in
     let h = c.args.hand.now in
     let w = Header c.args.group Phase in
-    let at = c.header-address.ensures.named in (
+    let at =
+    c.header-address.ensures.named
+    ∙ ap (λ (n : ℕ). address_of (limits_of b.layout) (Header c.args.group (header_word n)))
+    c.number.ensures
+    in (
       c.requires.hand.table,
       inside b w _ c.requires.group at,
       loads_phase (opening_of b) _ h.seat.id h.seat.me h.number h.mine c.requires.hand.opened
@@ -25,7 +31,12 @@ returns c =
     let b = c.args.self.now in
     let h = c.args.hand.now in
     let w = Header c.args.group Phase in
-    let name = named_in b h w _ c.requires.hand c.requires.group c.header-address.ensures.named in
+    let at =
+    c.header-address.ensures.named
+    ∙ ap (λ (n : ℕ). address_of (limits_of b.layout) (Header c.args.group (header_word n)))
+    c.number.ensures
+    in
+    let name = named_in b h w _ c.requires.hand c.requires.group at in
     makes b h _ _ c.requires.hand c.load.ensures.0 refl
     (subst (λ (u : Word). Acts (view h) (phase_load u c.load.result) c.load.new.seat.me.0) name
     c.load.ensures.2.acts)
