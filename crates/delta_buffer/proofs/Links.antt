@@ -1,22 +1,21 @@
 -- What links say that were loaded, and how keys rise along them.
 use Rattle.std.proofs.Common.{◌≡◌, ◌≢◌, ℕ, zero, suc, ◌+◌, ◌-◌, ◌<◌, ◌^◌, inl, ⊎_elim}
-use Rattle.std.proofs.Common.{true, refl, ap, arith, eq-eqb}
-use Rattle.word_layout.specs.declared.headers.HeaderWord.TheVariants as header
+use Rattle.std.proofs.Common.{true, ◌∷◌, refl, ap, arith, eq-eqb}
 use Rattle.word_layout.specs.declared.places.Part.TheVariants as part
-use Rattle.word_layout.specs.Words.{Header, PlaceWord}
+use Rattle.word_layout.specs.Words.{PlaceWord}
 use Rattle.word_layout.proofs.RowPlaces.{row-nonzero}
-use Rattle.index_machine.specs.declared.events.Action.TheVariants.{LoadLink}
 use Rattle.index_machine.specs.declared.opening.Opening.{Opening}
-use Rattle.index_machine.specs.Conditions.{Valid}
-use Rattle.index_machine.specs.Execution.{Execution}
-use Rattle.index_machine.specs.Reaching.{names_place}
+use Rattle.index_machine.specs.Conditions.{Allowed, Valid}
+use Rattle.index_machine.specs.Execution.{Execution, event}
+use Rattle.index_machine.specs.Reaching.{names_place, reached}
 use Rattle.index_machine.specs.RecordConditions.{IsLinkInto}
 use Rattle.index_machine.specs.Rows.{InBuffer, Role, role, role_key}
-use Rattle.index_machine.specs.Words.{limits, link_behind}
+use Rattle.index_machine.specs.Sections.{IsCaller}
+use Rattle.index_machine.specs.Words.{limits, link_behind, word}
 use Rattle.index_machine.proofs.Placing.{buffer_row}
 use Rattle.index_rule.specs.Records.{key_at, or_zero}
 use Rattle.index_rule.proofs.RecordSteps.{place_below}
-use Rattle.delta_buffer.specs.Walks.{load_of_link}
+use Rattle.delta_buffer.specs.Walks.{IsWalkOf, load_of_link}
 
 -- a row of a buffer is not place 0
 pub row_some : (o : Opening) (t : Execution) (g p k : ℕ) → Valid o t →
@@ -36,18 +35,29 @@ pub link_of_row : (g p : ℕ) → p ≢ 0 → link_behind g p ≡ PlaceWord p pa
 link_of_row g zero some = absurd (some refl)
 link_of_row g (suc n) some = refl
 
-pub link_of_head : (g p : ℕ) → p ≡ 0 → link_behind g p ≡ Header g header.BufferHead
-link_of_head g p e = ap (link_behind g) e
+-- its load is one of a walk
+pub link_is_walk : (g p q : ℕ) → IsWalkOf g (load_of_link g p q)
+link_is_walk g zero q = refl
+link_is_walk g (suc n) q = refl
 
--- its load
-pub load_of_row : (g p q : ℕ) → p ≢ 0 → load_of_link g p q ≡ LoadLink g p q
-load_of_row g zero q some = absurd (some refl)
-load_of_row g (suc n) q some = refl
+-- it finds the word there, which leads to no row or to one of the buffer
+pub link_says : (o : Opening) (hand g p q : ℕ) (t : Execution) →
+    Allowed o t hand (load_of_link g p q) →
+    (word o (event hand (load_of_link g p q) ∷ t) (link_behind g p) ≡ q)
+    × (IsCaller o hand → IsLinkInto o g q (event hand (load_of_link g p q) ∷ t))
+link_says o hand g zero q t may = (may.found_word, may.says)
+link_says o hand g (suc n) q t may = (may.found_word, may.says)
 
--- a link names the place to which it leads
-pub names_own : (p : ℕ) → p ≢ 0 → names_place p p ≡ true
+-- the link names the place to which it leads
+names_own : (p : ℕ) → p ≢ 0 → names_place p p ≡ true
 names_own zero some = absurd (some refl)
 names_own (suc n) some = eq-eqb (suc n) (suc n) refl
+
+-- so the hand has reached that
+pub link_reaches : (hand g p q : ℕ) (t : Execution) → q ≢ 0 →
+    reached hand q (event hand (load_of_link g p q) ∷ t) ≡ true
+link_reaches hand g zero q t some = rw (eq-eqb hand hand refl, names_own q some) refl
+link_reaches hand g (suc n) q t some = rw (eq-eqb hand hand refl, names_own q some) refl
 
 pub buffer_key : {g i j : ℕ} → InBuffer g i ≡ InBuffer g j → i ≡ j
 buffer_key e = cc

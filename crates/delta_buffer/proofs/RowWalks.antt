@@ -7,15 +7,13 @@ use Rattle.std.proofs.Common.{[], ◌∷◌, ◌++◌, length, refl, sym, ap, �
 use Rattle.map_model.specs.Map.{Map, look}
 use Rattle.word_layout.specs.declared.places.Part.TheVariants.{Link}
 use Rattle.word_layout.specs.Words.{PlaceWord}
-use Rattle.index_machine.specs.declared.events.Action.{Action}
-use Rattle.index_machine.specs.declared.events.Action.TheVariants.{LoadHead, LoadLink}
 use Rattle.index_machine.specs.declared.opening.Opening.{Opening}
 use Rattle.index_machine.specs.Conditions.{Valid}
 use Rattle.index_machine.specs.Execution.{Execution, event}
 use Rattle.index_machine.specs.Reaching.{stands_in}
 use Rattle.index_machine.specs.RecordConditions.{IsLinkInto}
 use Rattle.index_machine.specs.Rows.{InBuffer, role}
-use Rattle.index_machine.specs.Sections.{IsCaller, IsNoCrossing, StaysInside}
+use Rattle.index_machine.specs.Sections.{IsCaller, StaysInside}
 use Rattle.index_machine.specs.Words.{limits, word}
 use Rattle.index_machine.proofs.Executions.{valid_before}
 use Rattle.index_machine.proofs.OpeningRows.{opening_role-row}
@@ -31,18 +29,18 @@ use Rattle.machine_readers.specs.Buffers.{rows}
 use Rattle.machine_readers.proofs.ReadSections.{place_on}
 use Rattle.index_rule.specs.declared.board.Board.{Board}
 use Rattle.index_rule.specs.declared.hand.Hand.{Hand}
-use Rattle.index_rule.specs.Hands.{Makes, known, opening_of}
+use Rattle.index_rule.specs.Hands.{known, opening_of}
 use Rattle.index_rule.proofs.Calls.{HasBegun, begun_on, goes_on}
 use Rattle.index_rule.proofs.RecordStepping.{goes_on_inside, now, since}
 use Rattle.index_rule.proofs.Stepping.{valid_after}
 use Rattle.row_arena.proofs.UsedRows.{rows-length}
 use Rattle.delta_buffer.specs.Searching.{CanSearch, IsReachedRow}
-use Rattle.delta_buffer.specs.Walks.{FollowsLink}
+use Rattle.delta_buffer.specs.Walks.{FollowsLink, load_of_link}
 use Rattle.delta_buffer.proofs.KeyCounts.{below_fits, below_kept, below_least, below_most}
 use Rattle.delta_buffer.proofs.KeyCounts.{below_next_least, below_next_most, below_zero, keys_below}
-use Rattle.delta_buffer.proofs.Links.{buffer_key, link_of_row, row_some}
+use Rattle.delta_buffer.proofs.Links.{buffer_key, link_is_walk, link_of_row, row_some}
 use Rattle.delta_buffer.proofs.CallSteps.{begun_since}
-use Rattle.delta_buffer.proofs.Stepping.{IsOn, arrives, empty_from, sets_out}
+use Rattle.delta_buffer.proofs.Stepping.{IsOn, arrives, empty_from, no_crossing, sets_out}
 
 -- ---- rows stay ----
 
@@ -58,22 +56,15 @@ rows_while o c g is n t valid stay s w k q e =
     all_listed o (n ++ t) valid g k q
     (place_on o c g is q k n t valid stay s (inr there) ∙ there)
 
-rows_after : (b : Board) (g : ℕ) (h k : Hand) (d : Action) → IsNoCrossing d → Makes b h d k →
-    CanSearch b g h → AllAmong (rows g (known h)) (rows g (known k))
-rows_after b g h k d none m can =
-    now b h k d can.of m (λ z t. AllAmong (rows g (known h)) (rows g t))
-    (rows_while (opening_of b) h.number g can.reading.caller (since b h k d can.of m) (known h)
-    (valid_after b h k d can.of m) (goes_on_inside b h k d can.of m none) can.stands can.walkable)
-
 rows_follow : (b : Board) (g before next : ℕ) (h k : Hand) → CanSearch b g h →
     FollowsLink b h g before next k → AllAmong (rows g (known h)) (rows g (known k))
 rows_follow b g before next h k can follows =
-    ⊎_elim
-    (λ (z : (before ≡ 0) × Makes b h (LoadHead g next) k).
-    rows_after b g h k (LoadHead g next) tt z.1 can)
-    (λ (z : Makes b h (LoadLink g before next) k).
-    rows_after b g h k (LoadLink g before next) tt z can)
-    follows
+    let d = load_of_link g before next in
+    let none = no_crossing g d (link_is_walk g before next) in
+    now b h k d can.of follows (λ z t. AllAmong (rows g (known h)) (rows g t))
+    (rows_while (opening_of b) h.number g can.reading.caller (since b h k d can.of follows)
+    (known h) (valid_after b h k d can.of follows) (goes_on_inside b h k d can.of follows none)
+    can.stands can.walkable)
 
 -- ---- a table's rows ----
 

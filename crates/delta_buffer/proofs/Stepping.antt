@@ -1,19 +1,17 @@
 -- What a caller knows on its walk, after each load.
-use Rattle.std.proofs.Common.{Some, None, ◌≤◌, ◌≡◌, ◌≢◌, ◌⊎◌, ℕ, ◌<◌, inl, inr, ⊎_elim, true}
-use Rattle.std.proofs.Common.{false, Bool, cond, Some, []}
-use Rattle.std.proofs.Common.{◌∷◌, ◌++◌, refl, sym, ap, ◌∙◌, subst, arith}
+use Rattle.std.proofs.Common.{Some, None, ◌≤◌, ◌≡◌, ◌≢◌, ◌⊎◌, ℕ, ◌<◌, inl, inr, ⊎_elim}
+use Rattle.std.proofs.Common.{[], ◌∷◌, ◌++◌, refl, sym, ap, ◌∙◌, subst, arith}
 use Rattle.map_model.specs.Map.{look}
 use Rattle.index_machine.specs.declared.events.Action.{Action}
 use Rattle.index_machine.specs.declared.events.Action.TheVariants.{LoadHead, LoadKey, LoadLink}
 use Rattle.index_machine.specs.declared.opening.Opening.{Opening}
 use Rattle.index_machine.specs.Conditions.{Valid}
-use Rattle.index_machine.specs.Execution.{Continues, Execution}
-use Rattle.index_machine.specs.Reaching.{reached, reached_after}
+use Rattle.index_machine.specs.Execution.{Continues, Execution, event}
 use Rattle.index_machine.specs.RecordConditions.{IsAt, IsLinkInto}
 use Rattle.index_machine.specs.Rows.{InBuffer, role, role_key}
 use Rattle.index_machine.specs.Sections.{IsNoCrossing}
 use Rattle.index_machine.specs.Words.{link_behind, word}
-use Rattle.index_machine.proofs.Executions.{continues_same, continues_trans, own_step}
+use Rattle.index_machine.proofs.Executions.{continues_same, continues_trans}
 use Rattle.index_machine.proofs.Holders.{TakesLock}
 use Rattle.machine_buffers.specs.Walks.{Decides, IsLinkBefore, IsWalkable}
 use Rattle.machine_buffers.proofs.Walks.{decide, rises, stay_before, walkable_while}
@@ -32,9 +30,8 @@ use Rattle.index_rule.proofs.Stepping.{known_is, still_holds_no_lock, valid_afte
 use Rattle.delta_buffer.specs.Searching.{CanSearch, FindsFirst, FindsGap, IsReachedRow}
 use Rattle.delta_buffer.specs.Walks.{FollowsLink, HasJustMade, IsWalkOf, Walks, load_of_link}
 use Rattle.delta_buffer.proofs.CallSteps.{begun_since, just_made}
-use Rattle.delta_buffer.proofs.Links.{buffer_key, left_none, left_some, link_of_head, link_of_row}
-use Rattle.delta_buffer.proofs.Links.{load_of_row, names_own}
-use Rattle.delta_buffer.proofs.Links.{rise_left, row_some}
+use Rattle.delta_buffer.proofs.Links.{buffer_key, left_none, left_some, link_is_walk, link_of_row}
+use Rattle.delta_buffer.proofs.Links.{link_reaches, link_says, rise_left, row_some}
 
 -- ---- the loads of a walk ----
 
@@ -111,68 +108,26 @@ pub record IsOn (b : Board) (g key before next : ℕ) (h m : Hand) : Type 0 wher
   pub behind : IsLinkBefore (opening_of b) g key before (known m)
   pub ahead : LeadsOn (opening_of b) m.number g next (known m)
 
-module _ (b : Board) (g before next : ℕ) (i k : Hand) (can : CanSearch b g i) where
-  -- the head was loaded
-  module _ (m : Makes b i (LoadHead g next) k) where
-    pub head_leads : before ≡ 0 → word (opening_of b) (known k) (link_behind g before) ≡ next
-    head_leads e =
-        ap (λ (z : Execution). word (opening_of b) z (link_behind g before))
-        (known_is b i k (LoadHead g next) can.of m)
-        ∙ (ap (word (opening_of b) (m.acts.0 ++ known i)) (link_of_head g before e)
-        ∙ (valid_after b i k (LoadHead g next) can.of m).0.found_word)
-
-    pub head_ahead : LeadsOn (opening_of b) k.number g next (known k)
-    head_ahead =
-        let o = opening_of b in
-        let valid = valid_after b i k (LoadHead g next) can.of m in
-        ⊎_elim (λ (z : next ≡ 0). inl z)
-        (λ (z : (j : ℕ) × (role o next (m.acts.0 ++ known i) ≡ InBuffer g j)).
-        inr (
-          z.0,
-          (
-            ap (role o next) (known_is b i k (LoadHead g next) can.of m) ∙ z.1,
-            now b i k (LoadHead g next) can.of m (λ c t. reached c next t ≡ true)
-                (own_step (reached_after next) false i.number (LoadHead g next)
-                (m.acts.0 ++ known i)
-                ∙ ap (λ (x : Bool). cond x true (reached i.number next (m.acts.0 ++ known i)))
-                (names_own next (row_some o (m.acts.0 ++ known i) g next z.0 valid.1 z.1))),
-          ),
-        ))
-        (valid.0.says can.reading.caller)
-
-  -- the link of a row was
-  module _ (m : Makes b i (LoadLink g before next) k) where
-    pub row_leads : before ≢ 0 → word (opening_of b) (known k) (link_behind g before) ≡ next
-    row_leads some =
-        ap (λ (z : Execution). word (opening_of b) z (link_behind g before))
-        (known_is b i k (LoadLink g before next) can.of m)
-        ∙ (ap (word (opening_of b) (m.acts.0 ++ known i)) (link_of_row g before some)
-        ∙ (valid_after b i k (LoadLink g before next) can.of m).0.found_word)
-
-    pub row_is_some : before ≢ 0
-    row_is_some =
-        let valid = valid_after b i k (LoadLink g before next) can.of m in
-        let row = valid.0.row can.reading.caller in
-        row_some (opening_of b) (m.acts.0 ++ known i) g before row.0 valid.1 row.1
-
-    pub row_ahead : LeadsOn (opening_of b) k.number g next (known k)
-    row_ahead =
-        let o = opening_of b in
-        let valid = valid_after b i k (LoadLink g before next) can.of m in
-        ⊎_elim (λ (z : next ≡ 0). inl z)
-        (λ (z : (j : ℕ) × (role o next (m.acts.0 ++ known i) ≡ InBuffer g j)).
-        inr (
-          z.0,
-          (
-            ap (role o next) (known_is b i k (LoadLink g before next) can.of m) ∙ z.1,
-            now b i k (LoadLink g before next) can.of m (λ c t. reached c next t ≡ true)
-                (own_step (reached_after next) false i.number (LoadLink g before next)
-                (m.acts.0 ++ known i)
-                ∙ ap (λ (x : Bool). cond x true (reached i.number next (m.acts.0 ++ known i)))
-                (names_own next (row_some o (m.acts.0 ++ known i) g next z.0 valid.1 z.1))),
-          ),
-        ))
-        (valid.0.says can.reading.caller)
+-- the link that was loaded is there, and leads on
+leads_on : (b : Board) (g before next : ℕ) (i k : Hand) → CanSearch b g i →
+    FollowsLink b i g before next k →
+    (word (opening_of b) (known k) (link_behind g before) ≡ next)
+    × LeadsOn (opening_of b) k.number g next (known k)
+leads_on b g before next i k can follows =
+    let o = opening_of b in
+    let d = load_of_link g before next in
+    let t : Execution = event i.number d ∷ follows.acts.0 ++ known i in
+    let valid = valid_after b i k d can.of follows in
+    let says = link_says o i.number g before next (follows.acts.0 ++ known i) valid.0 in
+    now b i k d can.of follows
+    (λ c u. (word o u (link_behind g before) ≡ next) × LeadsOn o c g next u) (
+      says.0,
+      ⊎_elim (λ (z : next ≡ 0). inl z)
+          (λ (z : (j : ℕ) × (role o next t ≡ InBuffer g j)).
+          let some = row_some o t g next z.0 valid z.1 in
+          inr (z.0, (z.1, link_reaches i.number g before next (follows.acts.0 ++ known i) some)))
+          (says.1 can.reading.caller),
+    )
 
 -- a link was loaded on the walk to a key that it stands before
 pub arrives : (b : Board) (g key before next : ℕ) (h i k : Hand) → CanSearch b g i →
@@ -181,35 +136,21 @@ pub arrives : (b : Board) (g key before next : ℕ) (h i k : Hand) → CanSearch
     IsLinkBefore (opening_of b) g key before (known i) → FollowsLink b i g before next k →
     IsOn b g key before next h k
 arrives b g key before next h i k can same since log walks begun behind follows =
-    ⊎_elim
-    (λ (z : (before ≡ 0) × Makes b i (LoadHead g next) k). record {
-      search = search_on b g i k (LoadHead g next) refl z.1 can;
-      number = z.1.number ∙ same;
-      log = log_on b g i k (LoadHead g next) refl z.1 h can.of log;
-      walks = walks_on b g i k (LoadHead g next) refl z.1 h walks;
-      loaded = subst (λ (x : ℕ). HasJustMade h (load_of_link g x next) (known k)) (sym z.0)
-          (just_made b h i k (LoadHead g next) since same can.of z.1);
-      begun = begun (LoadHead g next) z.1;
-      valid = valid_known b i k (LoadHead g next) can.of z.1;
-      leads = head_leads b g before next i k can z.1 z.0;
-      behind = before_after b g key before i k (LoadHead g next) tt z.1 can behind;
-      ahead = head_ahead b g before next i k can z.1;
-    })
-    (λ (z : Makes b i (LoadLink g before next) k). record {
-      search = search_on b g i k (LoadLink g before next) refl z can;
-      number = z.number ∙ same;
-      log = log_on b g i k (LoadLink g before next) refl z h can.of log;
-      walks = walks_on b g i k (LoadLink g before next) refl z h walks;
-      loaded = subst (λ (d : Action). HasJustMade h d (known k))
-          (sym (load_of_row g before next (row_is_some b g before next i k can z)))
-          (just_made b h i k (LoadLink g before next) since same can.of z);
-      begun = begun (LoadLink g before next) z;
-      valid = valid_known b i k (LoadLink g before next) can.of z;
-      leads = row_leads b g before next i k can z (row_is_some b g before next i k can z);
-      behind = before_after b g key before i k (LoadLink g before next) tt z can behind;
-      ahead = row_ahead b g before next i k can z;
-    })
-    follows
+    let d = load_of_link g before next in
+    let is = link_is_walk g before next in
+    let leads = leads_on b g before next i k can follows in
+    record {
+      search = search_on b g i k d is follows can;
+      number = follows.number ∙ same;
+      log = log_on b g i k d is follows h can.of log;
+      walks = walks_on b g i k d is follows h walks;
+      loaded = just_made b h i k d since same can.of follows;
+      begun = begun d follows;
+      valid = valid_known b i k d can.of follows;
+      leads = leads.0;
+      behind = before_after b g key before i k d (no_crossing g d is) follows can behind;
+      ahead = leads.1;
+    }
 
 -- the first one
 pub sets_out : (b : Board) (g key next : ℕ) (h k : Hand) → CanSearch b g h →
@@ -354,8 +295,10 @@ left_falls b g key before next met next2 h m n k on some l lt follows =
     let o = opening_of b in
     let on_k = goes_behind b g key before next met h m n on some l next2 k lt follows in
     let here : role o next (known k) ≡ InBuffer g met =
-    row_after b g next met n k (is_at b g key before next met h m n on some l)
+    same_role b n k (load_of_link g next next2)
     (search_on b g m n (LoadKey next met) tt l on.search).of follows
+    (no_crossing g (load_of_link g next next2) (link_is_walk g next next2)) next
+    (is_at b g key before next met h m n on some l)
     ∙ is_still_of b g key before next met h m n on some l in
     let old = left_some o key next met g (known m) some
     (is_of b g key before next met h m n on some l) in
@@ -369,16 +312,6 @@ left_falls b g key before next met next2 h m n k on some l lt follows =
     (row_some o (known k) g next2 z.0 on_k.valid z.1.0) z.1.0 in
     omega arith)
     on_k.ahead
-  where
-    row_after : (b : Board) (g p j : ℕ) (n k : Hand) → IsAt (opening_of b) n.number p (known n) →
-        IsHandOf b n → FollowsLink b n g p next2 k →
-        role (opening_of b) p (known k) ≡ role (opening_of b) p (known n)
-    row_after b g p j n k at of follows =
-        ⊎_elim
-        (λ (z : (p ≡ 0) × Makes b n (LoadHead g next2) k).
-        same_role b n k (LoadHead g next2) of z.1 tt p at)
-        (λ (z : Makes b n (LoadLink g p next2) k).
-        same_role b n k (LoadLink g p next2) of z tt p at) follows
 
 -- the end of the buffer
 pub found_end : (b : Board) (g key before next : ℕ) (h m : Hand) →

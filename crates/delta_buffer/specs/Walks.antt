@@ -1,5 +1,5 @@
 -- The steps of a walk through a buffer: loads alone, of its head and of its rows' links and keys.
-use Rattle.std.specs.Prelude.{◌≡◌, ◌⊎◌, ℕ, zero, suc, List, [], ◌∷◌}
+use Rattle.std.specs.Prelude.{◌≡◌, ℕ, zero, suc, List, [], ◌∷◌}
 use Rattle.index_machine.specs.declared.events.Action.{Action}
 use Rattle.index_machine.specs.declared.events.Action.TheVariants.{LoadHead, LoadKey, LoadLink}
 use Rattle.index_machine.specs.Execution.{Continues, Execution, event}
@@ -7,15 +7,14 @@ use Rattle.index_rule.specs.declared.board.Board.{Board}
 use Rattle.index_rule.specs.declared.hand.Hand.{Hand}
 use Rattle.index_rule.specs.Hands.{Makes, MakesAll, known}
 
--- the link behind the place was loaded, or the head for 0, and led there
-abbrev pub FollowsLink : Board → Hand → ℕ → ℕ → ℕ → Hand → Type 0
-FollowsLink b h group before next k =
-    ((before ≡ 0) × Makes b h (LoadHead group next) k) ⊎ Makes b h (LoadLink group before next) k
-
 -- the load of the link behind the place, or of the head for 0, which leads there
 abbrev pub load_of_link : ℕ → ℕ → ℕ → Action
 load_of_link group zero next = LoadHead group next
 load_of_link group (suc n) next = LoadLink group (suc n) next
+
+-- the link behind the place was loaded, or the head for 0, and led there
+abbrev pub FollowsLink : Board → Hand → ℕ → ℕ → ℕ → Hand → Type 0
+FollowsLink b h group before next k = Makes b h (load_of_link group before next) k
 
 -- the hand made this step in the call
 abbrev pub MakesIn : Hand → Action → Hand → Type 0
