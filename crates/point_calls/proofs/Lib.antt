@@ -4,5 +4,6 @@ pub mod Locating
 pub mod Missing
 pub mod RowReading
 pub mod RowChanging
+pub mod Refusals
 pub mod RowPutting
 pub mod NewRows

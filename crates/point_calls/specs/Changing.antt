@@ -1,5 +1,5 @@
--- Why a change of a record came to no end.
-use Rattle.std.specs.Prelude.{◌≡◌, ◌≢◌, ℕ, ◌+◌, ◌≤◌, Bool}
+-- Why a change of a record came to no end, and what the call answers then.
+use Rattle.std.specs.Prelude.{◌≡◌, ◌≢◌, ℕ, ◌+◌, ◌^◌, ◌<◌, ◌≤◌, Bool, Option, None, Some}
 use Rattle.word_layout.specs.declared.places.Part.TheVariants.{State}
 use Rattle.word_layout.specs.Places.{part_address}
 use Rattle.word_layout.specs.Words.{PlaceWord}
@@ -11,8 +11,13 @@ use Rattle.index_machine.specs.LivePlaces.{history}
 use Rattle.index_machine.specs.Places.{first_version}
 use Rattle.index_rule.specs.declared.board.Board.{Board}
 use Rattle.index_rule.specs.declared.hand.Hand.{Hand}
+use Rattle.index_rule.specs.declared.tried.Tried.{Tried}
+use Rattle.index_rule.specs.declared.tried.Tried.TheVariants as tried
+use Rattle.index_rule.specs.declared.tried.Why.TheVariants as why
 use Rattle.index_rule.specs.Hands.{opening_of}
 use Rattle.index_rule.specs.Moments.{IsWithin}
+use Rattle.record_cell.specs.declared.answers.Wrote.{Wrote}
+use Rattle.record_cell.specs.declared.answers.Wrote.TheVariants as wrote
 use Rattle.record_cell.specs.Writes.{worn_word}
 use Rattle.delta_buffer.specs.Walks.{MakesIn}
 use Rattle.point_calls.specs.PointCalls.{IsOfKey, MakesThen}
@@ -38,3 +43,18 @@ pub record MeetsLast (b : Board) (key : ℕ) (h : Hand) (place word : ℕ) (k : 
   pub moment : Execution
   pub within : IsWithin h k moment
   pub enough : last_version ≤ first_version (opening_of b) + changes_at key (history moment)
+
+-- a change was refused, and a place whose lock was lost has an address
+abbrev pub IsRefusal : Wrote → Type 0
+IsRefusal (wrote.Locked place word) = Unit {0}
+IsRefusal (wrote.Raced place expected found) = place < 2 ^ 28
+IsRefusal (wrote.Worn place word) = Unit {0}
+IsRefusal _ = ⊥
+
+-- the answer of the call whose change was refused
+abbrev pub refusal_of : Wrote → Option (Tried (Option ℕ))
+refusal_of (wrote.Locked place word) = Some (tried.Again (why.Locked place word))
+refusal_of (wrote.Raced place expected found) =
+    Some (tried.Again (why.Raced (part_address place State) expected found))
+refusal_of (wrote.Worn place word) = Some (tried.Worn place word)
+refusal_of _ = None

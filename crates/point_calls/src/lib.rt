@@ -10,6 +10,7 @@ mod linking;
 mod lookup;
 mod overwriting;
 mod putting;
+mod refusing;
 mod removing;
 #[cfg(test)]
 mod tests;

@@ -5,10 +5,10 @@ ghost use Rattle.point_calls.specs.PointCalls.{CanCall, IsOneSection, KeepsRows,
 ghost use Rattle.point_calls.specs.Putting.{HasFoundRow, HasFoundTombstone, PutTells};
 
 use crate::found::FoundRow;
+use crate::refusing::refused;
 use index_rule::{Board, Hand, Tried, Why};
 use record_cell::{Wrote, revive, update};
 use std::snapshot::Snapshot;
-use word_layout::state_word;
 
 /// Gives the row of the key the value, tried once, whether it is a tombstone or not.
 #[inline]
@@ -31,18 +31,7 @@ pub(crate) fn overwrite(
     match update(board, hand, row.place, value) {
         Wrote::Done { old } => Tried::Done(old),
         Wrote::Gone { word } => bring_back(board, hand, start, row, word, value),
-        Wrote::Live { .. } => unreachable!(),
-        Wrote::Locked { place, word } => Tried::Again(Why::Locked { place, word }),
-        Wrote::Raced {
-            place,
-            expected,
-            found,
-        } => Tried::Again(Why::Raced {
-            place: state_word(place),
-            expected,
-            found,
-        }),
-        Wrote::Worn { place, word } => Tried::Worn { place, word },
+        refusal => refused(refusal),
     }
 }
 
@@ -69,22 +58,11 @@ fn bring_back(
     board.load_phase(hand, row.group);
     match revive(board, hand, row.place, value) {
         Wrote::Done { old } => Tried::Done(old),
-        Wrote::Gone { .. } => unreachable!(),
         Wrote::Live { word } => Tried::Again(Why::Changed {
             place: row.place,
             first,
             second: word,
         }),
-        Wrote::Locked { place, word } => Tried::Again(Why::Locked { place, word }),
-        Wrote::Raced {
-            place,
-            expected,
-            found,
-        } => Tried::Again(Why::Raced {
-            place: state_word(place),
-            expected,
-            found,
-        }),
-        Wrote::Worn { place, word } => Tried::Worn { place, word },
+        refusal => refused(refusal),
     }
 }

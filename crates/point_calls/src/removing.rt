@@ -4,11 +4,11 @@ ghost use Rattle.point_calls.specs.PointCalls.{CanCall, IsOneSection, KeepsRows,
 ghost use Rattle.point_calls.specs.Removing.{RemoveTells};
 
 use crate::lookup::{locate, miss};
+use crate::refusing::refused;
 use delta_buffer::{Found, find};
-use index_rule::{Board, Hand, Tried, Why};
+use index_rule::{Board, Hand, Tried};
 use record_cell::{Wrote, kill};
 use std::snapshot::Snapshot;
-use word_layout::state_word;
 
 /// Removes the key, tried once, and answers the value that it had, or `None`.
 ///
@@ -31,17 +31,6 @@ pub fn remove(board: &Board, hand: &mut Hand, key: u64) -> Tried<Option<u64>>
     match kill(board, hand, place) {
         Wrote::Done { old } => Tried::Done(old),
         Wrote::Gone { .. } => miss(board, hand, &start, group, key),
-        Wrote::Live { .. } => unreachable!(),
-        Wrote::Locked { place, word } => Tried::Again(Why::Locked { place, word }),
-        Wrote::Raced {
-            place,
-            expected,
-            found,
-        } => Tried::Again(Why::Raced {
-            place: state_word(place),
-            expected,
-            found,
-        }),
-        Wrote::Worn { place, word } => Tried::Worn { place, word },
+        refusal => refused(refusal),
     }
 }

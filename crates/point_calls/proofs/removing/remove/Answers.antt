@@ -1,18 +1,18 @@
-use Rattle.std.proofs.Common.{ℕ, ◌≤◌, Option, None, false, sym, ◌∙◌, subst, arith}
+use Rattle.std.proofs.Common.{ℕ, rules, ◌≤◌, Option, None, sym, ◌∙◌, subst, arith}
 use Rattle.index_machine.specs.Openings.{greatest_key}
 use Rattle.index_rule.specs.declared.hand.Hand.{Hand}
 use Rattle.index_rule.specs.declared.tried.Tried.{Tried}
 use Rattle.index_rule.specs.Hands.{known, opening_of}
 use Rattle.record_cell.specs.Writes.{remove_at}
-use Rattle.point_calls.specs.Changing.{LosesLock}
 use Rattle.point_calls.specs.Lookup.{HasMissed}
 use Rattle.point_calls.specs.PointCalls.{LooksUp}
 use Rattle.point_calls.specs.Removing.{RemoveTells}
 use Rattle.point_calls.proofs.Knowing.{built_at, in_walk, valid_at, within_whole}
 use Rattle.point_calls.proofs.Missing.{gap_absent, group_opened, in_comes, missed}
-use Rattle.point_calls.proofs.RowChanging.{in_done, in_failed, loses_lock, meets_last, of_key_below}
+use Rattle.point_calls.proofs.RowChanging.{in_done}
 use Rattle.point_calls.proofs.RowChanging.{removed_tells}
-use Rattle.point_calls.proofs.RowReading.{in_found, meets_lock, missed_stone, of_row, ready_row}
+use Rattle.point_calls.proofs.RowReading.{missed_stone, ready_row}
+use Rattle.point_calls.proofs.Refusals.{in_refused, is_refusal, remove_tells, write_refused}
 use Rattle.point_calls.proofs.removing.remove.Goals as goal
 
 pub miss-requires : goal.miss-requires
@@ -131,27 +131,24 @@ returns-in-Gone-clause-tells c =
     subst (λ (z : Tried (Option ℕ)). RemoveTells b c.args.key c.args.hand.now z k) (sym e.done)
     (subst (λ (z : Hand). LooksUp b c.args.key z None k) c.of-start.ensures e.looks)
 
-pub returns-in-Locked-clause-stays : goal.returns-in-Locked-clause-stays
-returns-in-Locked-clause-stays c =
+pub refused-requires : goal.refused-requires
+refused-requires c =
     let b = c.args.board.now in
     let h = c.args.hand.now in
     let l = c.locate-group.new.hand in
     let n = c.find.new.hand in
     let k = c.kill.new.hand in
     let g : ℕ = c.locate-group.result in
-    let key : ℕ = c.args.key in
+    let place : ℕ = c.in-Row.place in
     let comes = c.locate-group.ensures.comes in
-    let il = in_comes b h l g c.requires.call.of comes in
     let w = c.find.ensures.steps in
-    let i = in_walk b g h l w.0 n w.1 w.2 il in
-    let can = c.find.ensures.search in
-    let row = c.in-Row.ensures.finds in
-    let none = c.find.ensures.log ∙ comes.no_entry in
-    (in_found b h n g key c.in-Row.place i can row k c.in-Locked.place c.in-Locked.word
-    c.in-Locked.ensures.steps.0).section
+    let i = in_walk b g h l w.0 n w.1 w.2 (in_comes b h l g c.requires.call.of comes) in
+    is_refusal b h n g c.args.key place i c.find.ensures.search c.in-Row.ensures.finds k c.kill.result
+    (write_refused b n place (remove_at b n place) c.kill.result k c.kill.ensures.steps
+    c.kill.ensures.tells c.in_default-kill.not-Done c.in_default-kill.not-Gone)
 
-pub returns-in-Locked-clause-rows : goal.returns-in-Locked-clause-rows
-returns-in-Locked-clause-rows c =
+pub returns : goal.returns
+returns c =
     let b = c.args.board.now in
     let h = c.args.hand.now in
     let l = c.locate-group.new.hand in
@@ -159,182 +156,21 @@ returns-in-Locked-clause-rows c =
     let k = c.kill.new.hand in
     let g : ℕ = c.locate-group.result in
     let key : ℕ = c.args.key in
+    let place : ℕ = c.in-Row.place in
     let comes = c.locate-group.ensures.comes in
-    let il = in_comes b h l g c.requires.call.of comes in
     let w = c.find.ensures.steps in
-    let i = in_walk b g h l w.0 n w.1 w.2 il in
+    let i = in_walk b g h l w.0 n w.1 w.2 (in_comes b h l g c.requires.call.of comes) in
     let can = c.find.ensures.search in
     let row = c.in-Row.ensures.finds in
-    let none = c.find.ensures.log ∙ comes.no_entry in
-    (in_found b h n g key c.in-Row.place i can row k c.in-Locked.place c.in-Locked.word
-    c.in-Locked.ensures.steps.0).rows
-
-pub returns-in-Locked-clause-tells : goal.returns-in-Locked-clause-tells
-returns-in-Locked-clause-tells c =
-    let b = c.args.board.now in
-    let h = c.args.hand.now in
-    let l = c.locate-group.new.hand in
-    let n = c.find.new.hand in
-    let k = c.kill.new.hand in
-    let g : ℕ = c.locate-group.result in
-    let key : ℕ = c.args.key in
-    let comes = c.locate-group.ensures.comes in
-    let il = in_comes b h l g c.requires.call.of comes in
-    let w = c.find.ensures.steps in
-    let i = in_walk b g h l w.0 n w.1 w.2 il in
-    let can = c.find.ensures.search in
-    let row = c.in-Row.ensures.finds in
-    let none = c.find.ensures.log ∙ comes.no_entry in
-    let s = c.in-Locked.ensures.steps in
-    let t = c.in-Locked.ensures.tells in (
-      t.0 ∙ none,
-      meets_lock b h n g key c.in-Row.place i can row k c.in-Locked.place c.in-Locked.word s.0 s.1 t.1,
-    )
-
-pub state_word-requires : goal.state_word-requires
-state_word-requires c =
-    let b = c.args.board.now in
-    let h = c.args.hand.now in
-    let l = c.locate-group.new.hand in
-    let n = c.find.new.hand in
-    let k = c.kill.new.hand in
-    let g : ℕ = c.locate-group.result in
-    let key : ℕ = c.args.key in
-    let comes = c.locate-group.ensures.comes in
-    let il = in_comes b h l g c.requires.call.of comes in
-    let w = c.find.ensures.steps in
-    let i = in_walk b g h l w.0 n w.1 w.2 il in
-    let can = c.find.ensures.search in
-    let row = c.in-Row.ensures.finds in
-    let none = c.find.ensures.log ∙ comes.no_entry in
-    let s = c.in-Raced.ensures.steps in
-    of_key_below b h k key c.in-Raced.place
-    (in_failed b h n g key c.in-Row.place i can row k s.0 c.in-Raced.place c.in-Raced.expected
-    c.in-Raced.found s.1 s.3)
-    (of_row b n k g key c.in-Row.place c.in-Raced.place row.0 c.in-Raced.ensures.tells.1)
-
-pub returns-in-Raced-clause-stays : goal.returns-in-Raced-clause-stays
-returns-in-Raced-clause-stays c =
-    let b = c.args.board.now in
-    let h = c.args.hand.now in
-    let l = c.locate-group.new.hand in
-    let n = c.find.new.hand in
-    let k = c.kill.new.hand in
-    let g : ℕ = c.locate-group.result in
-    let key : ℕ = c.args.key in
-    let comes = c.locate-group.ensures.comes in
-    let il = in_comes b h l g c.requires.call.of comes in
-    let w = c.find.ensures.steps in
-    let i = in_walk b g h l w.0 n w.1 w.2 il in
-    let can = c.find.ensures.search in
-    let row = c.in-Row.ensures.finds in
-    let none = c.find.ensures.log ∙ comes.no_entry in
-    let s = c.in-Raced.ensures.steps in
-    (in_failed b h n g key c.in-Row.place i can row k s.0 c.in-Raced.place c.in-Raced.expected
-    c.in-Raced.found s.1 s.3).section
-
-pub returns-in-Raced-clause-rows : goal.returns-in-Raced-clause-rows
-returns-in-Raced-clause-rows c =
-    let b = c.args.board.now in
-    let h = c.args.hand.now in
-    let l = c.locate-group.new.hand in
-    let n = c.find.new.hand in
-    let k = c.kill.new.hand in
-    let g : ℕ = c.locate-group.result in
-    let key : ℕ = c.args.key in
-    let comes = c.locate-group.ensures.comes in
-    let il = in_comes b h l g c.requires.call.of comes in
-    let w = c.find.ensures.steps in
-    let i = in_walk b g h l w.0 n w.1 w.2 il in
-    let can = c.find.ensures.search in
-    let row = c.in-Row.ensures.finds in
-    let none = c.find.ensures.log ∙ comes.no_entry in
-    let s = c.in-Raced.ensures.steps in
-    (in_failed b h n g key c.in-Row.place i can row k s.0 c.in-Raced.place c.in-Raced.expected
-    c.in-Raced.found s.1 s.3).rows
-
-pub returns-in-Raced-clause-tells : goal.returns-in-Raced-clause-tells
-returns-in-Raced-clause-tells c =
-    let b = c.args.board.now in
-    let h = c.args.hand.now in
-    let l = c.locate-group.new.hand in
-    let n = c.find.new.hand in
-    let k = c.kill.new.hand in
-    let g : ℕ = c.locate-group.result in
-    let key : ℕ = c.args.key in
-    let comes = c.locate-group.ensures.comes in
-    let il = in_comes b h l g c.requires.call.of comes in
-    let w = c.find.ensures.steps in
-    let i = in_walk b g h l w.0 n w.1 w.2 il in
-    let can = c.find.ensures.search in
-    let row = c.in-Row.ensures.finds in
-    let none = c.find.ensures.log ∙ comes.no_entry in
-    let s = c.in-Raced.ensures.steps in
-    let t = c.in-Raced.ensures.tells in (
-      t.0 ∙ none,
-      subst (λ (z : ℕ). LosesLock b key h z c.in-Raced.expected c.in-Raced.found k)
-          (sym c.state_word.ensures)
-          (loses_lock b h n g key c.in-Row.place i can row k s.0 c.in-Raced.place
-          c.in-Raced.expected c.in-Raced.found s.1 s.3 s.4 t.1),
-    )
-
-pub returns-clause-stays : goal.returns-clause-stays
-returns-clause-stays c =
-    let b = c.args.board.now in
-    let h = c.args.hand.now in
-    let l = c.locate-group.new.hand in
-    let n = c.find.new.hand in
-    let k = c.kill.new.hand in
-    let g : ℕ = c.locate-group.result in
-    let key : ℕ = c.args.key in
-    let comes = c.locate-group.ensures.comes in
-    let il = in_comes b h l g c.requires.call.of comes in
-    let w = c.find.ensures.steps in
-    let i = in_walk b g h l w.0 n w.1 w.2 il in
-    let can = c.find.ensures.search in
-    let row = c.in-Row.ensures.finds in
-    let none = c.find.ensures.log ∙ comes.no_entry in
-    (in_found b h n g key c.in-Row.place i can row k c.in-Worn.place c.in-Worn.word
-    c.in-Worn.ensures.steps.0).section
-
-pub returns-clause-rows : goal.returns-clause-rows
-returns-clause-rows c =
-    let b = c.args.board.now in
-    let h = c.args.hand.now in
-    let l = c.locate-group.new.hand in
-    let n = c.find.new.hand in
-    let k = c.kill.new.hand in
-    let g : ℕ = c.locate-group.result in
-    let key : ℕ = c.args.key in
-    let comes = c.locate-group.ensures.comes in
-    let il = in_comes b h l g c.requires.call.of comes in
-    let w = c.find.ensures.steps in
-    let i = in_walk b g h l w.0 n w.1 w.2 il in
-    let can = c.find.ensures.search in
-    let row = c.in-Row.ensures.finds in
-    let none = c.find.ensures.log ∙ comes.no_entry in
-    (in_found b h n g key c.in-Row.place i can row k c.in-Worn.place c.in-Worn.word
-    c.in-Worn.ensures.steps.0).rows
-
-pub returns-clause-tells : goal.returns-clause-tells
-returns-clause-tells c =
-    let b = c.args.board.now in
-    let h = c.args.hand.now in
-    let l = c.locate-group.new.hand in
-    let n = c.find.new.hand in
-    let k = c.kill.new.hand in
-    let g : ℕ = c.locate-group.result in
-    let key : ℕ = c.args.key in
-    let comes = c.locate-group.ensures.comes in
-    let il = in_comes b h l g c.requires.call.of comes in
-    let w = c.find.ensures.steps in
-    let i = in_walk b g h l w.0 n w.1 w.2 il in
-    let can = c.find.ensures.search in
-    let row = c.in-Row.ensures.finds in
-    let none = c.find.ensures.log ∙ comes.no_entry in
-    let s = c.in-Worn.ensures.steps in
-    let t = c.in-Worn.ensures.tells in (
-      t.0 ∙ none,
-      meets_last b h n g key c.in-Row.place i can row k c.in-Worn.place c.in-Worn.word false s.0 s.1
-          t.1 t.2,
-    )
+    let refused = write_refused b n place (remove_at b n place) c.kill.result k c.kill.ensures.steps
+    c.kill.ensures.tells c.in_default-kill.not-Done c.in_default-kill.not-Gone in
+    let ik = in_refused b h n g key place i can row k c.kill.result refused in
+    let tells = remove_tells b h n g key place i can row k c.kill.result c.refused.result
+    (c.find.ensures.log ∙ comes.no_entry) refused c.refused.ensures in
+    record {
+      call = search rules;
+      number = ik.number;
+      stays = ik.section;
+      rows = ik.rows;
+      tells = tells;
+    }
