@@ -1,6 +1,6 @@
 -- A session over an index that nobody else changes, in which nothing was refused, as one over a plain map.
 use Rattle.std.proofs.Common.{◌≡◌, ℕ, ◌+◌, ◌≤◌, Bool, true, false, cond, List, [], ◌∷◌, ◌++◌}
-use Rattle.std.proofs.Common.{Option, Some, None, IsSomeAnd, length, refl, sym, ap, subst, arith, inl, inr}
+use Rattle.std.proofs.Common.{Option, Some, None, IsSomeAnd, length, refl, sym, ap, subst, ◌∙◌, arith, inl, inr}
 use Rattle.std.specs.Prelude.{is_none}
 use Rattle.std.proofs.lemmas.Bool.{cases_order}
 use Rattle.std.proofs.lemmas.Bool.Decides.{nat_tests}
@@ -27,10 +27,11 @@ use Rattle.line_session.specs.declared.ends.Ended.{Ended}
 use Rattle.line_session.specs.Asked.{Stop}
 use Rattle.line_session.specs.Served.{Conversation}
 use Rattle.line_session.specs.Session.{Exchange, Session, Tells, reply_of}
-use Rattle.line_session.proofs.OneText.{bytes_have_one_text}
+use Rattle.line_session.proofs.OneText.{bytes_have_one_text, requests_have_one_text}
 use Rattle.word_layout.specs.declared.limits.Limits.{Limits}
 use Rattle.xindex_core.specs.Alone.{AddsNext, AnswersAlone, map_of}
-use Rattle.xindex.specs.PlainLaw.{BytesAloneHaveOneText, HasNoRefusal, IsNoRefusal, SessionsAloneArePlain}
+use Rattle.xindex.specs.PlainLaw.{BytesAloneHaveOneText, HasNoRefusal, IsNoRefusal}
+use Rattle.xindex.specs.PlainLaw.{PlainSessionsHaveTheSameReplies, SessionsAloneArePlain}
 
 -- ---- lengths ----
 
@@ -99,13 +100,14 @@ stands-anywhere m n (call.Next from) (Near (Row k v)) caller other place more s 
 stands-anywhere m n (call.Next from) (Near (Gap hi)) caller other place more s = s
 stands-anywhere m n call answer caller other place more s = absurd s
 
+-- how many keys a log inserted
+abbrev inserted : Log → ℕ
+inserted log = inserts [] (changes_of log)
+
 module _ (room : ℕ) where
   -- the plain map that a log tells
   abbrev plain : Log → BoundedMap
   plain log = record { pairs = map_of log; room = room }
-
-  abbrev inserted : Log → ℕ
-  inserted log = inserts [] (changes_of log)
 
   -- a step that inserts no fewer keys, and has this meaning where they fit in
   abbrev Means : Log → Log → Type 0 → Type 0
@@ -128,85 +130,167 @@ module _ (room : ℕ) where
     },
   )
 
-  module _ (l : Limits) where
-    answers : (old : Log) (call : Call) (answer : Answer) (new : Log) →
-        AnswersAlone l old call answer new → IsSomeAnd (reply_of call answer) IsNoRefusal →
-        Means old new (Answers (plain old) call answer (plain new))
-    answers old (call.Get k) Full new does none = absurd none
-    answers old (call.Get k) Worn new does none = absurd none
-    answers old (call.Put k v) Full new does none = absurd none
-    answers old (call.Put k v) Worn new does none = absurd none
-    answers old (call.Remove k) Full new does none = absurd none
-    answers old (call.Remove k) Worn new does none = absurd none
-    answers old (call.Next from) Full new does none = absurd none
-    answers old (call.Next from) Worn new does none = absurd none
-    answers old call answer new does none = makes old new call answer does
+  answers : (l : Limits) (old : Log) (call : Call) (answer : Answer) (new : Log) →
+      AnswersAlone l old call answer new → IsSomeAnd (reply_of call answer) IsNoRefusal →
+      Means old new (Answers (plain old) call answer (plain new))
+  answers l old (call.Get k) Full new does none = absurd none
+  answers l old (call.Get k) Worn new does none = absurd none
+  answers l old (call.Put k v) Full new does none = absurd none
+  answers l old (call.Put k v) Worn new does none = absurd none
+  answers l old (call.Remove k) Full new does none = absurd none
+  answers l old (call.Remove k) Worn new does none = absurd none
+  answers l old (call.Next from) Full new does none = absurd none
+  answers l old (call.Next from) Worn new does none = absurd none
+  answers l old call answer new does none = makes old new call answer does
 
-    -- ---- sessions ----
+-- ---- one call of a plain map, beside one with this room ----
 
-    tells : (old : Log) (call : Call) (replies : List Reply) (new : Log) →
-        Tells (AnswersAlone l) old call replies new → HasNoRefusal replies →
-        Means old new (Tells Answers (plain old) call replies (plain new))
-    tells old call replies new (answer, reply, does, told, is) none =
-        let fine = subst HasNoRefusal is none in
-        let step = answers old call answer new does
-        (subst (λ (z : Option Reply). IsSomeAnd z IsNoRefusal) (sym told) fine.0) in
-        (step.0, λ within. (answer, reply, step.1 within, told, is))
+module _ (room : ℕ) where
+  -- the map with this room
+  abbrev with_room : BoundedMap → BoundedMap
+  with_room m = record { pairs = m.pairs; room = room }
 
-    -- nothing was asked
-    asks_nothing : (old new : Log) (replies told : List Reply) → (replies ≡ told) × (new ≡ old) →
-        Means old new ((replies ≡ told) × (plain new ≡ plain old))
-    asks_nothing old new replies told (is, same) = (
-      subst (λ (z : Log). inserted old ≤ inserted z) (sym same) (omega arith),
-      λ within. (is, ap plain same),
-    )
+  -- a step that keeps the map's room, and has this meaning where that is no more than this room
+  abbrev Widens : BoundedMap → BoundedMap → Type 0 → Type 0
+  Widens old new meaning = (new.room ≡ old.room) × (new.room ≤ room → meaning)
 
-    exchange : (old : Log) (r : Request) (replies : List Reply) (new : Log) →
-        Exchange (AnswersAlone l) old r replies new → HasNoRefusal replies →
-        Means old new (Exchange Answers (plain old) r replies (plain new))
-    exchange old (request.Get k) replies new x none = tells old (call.Get k) replies new x none
-    exchange old (request.Put k v) replies new x none = tells old (call.Put k v) replies new x none
-    exchange old (request.Remove k) replies new x none =
-        tells old (call.Remove k) replies new x none
-    exchange old request.Quit replies new x none = asks_nothing old new replies _ x
-    exchange old (request.Bad reason) replies new x none = asks_nothing old new replies _ x
+  makes_wider : (old new : BoundedMap) (call : Call) (answer : Answer) →
+      MakesEntry old call answer new →
+      Widens old new (MakesEntry (with_room old) call answer (with_room new))
+  makes_wider old new call answer made = (
+    made.same_room,
+    λ wide. record {
+      entry = made.entry;
+      valid = record {
+        rising = made.valid.rising;
+        within = (let fits = made.valid.within in omega arith);
+      };
+      same_room = refl;
+    },
+  )
 
-    all-front : (front back : List Reply) → HasNoRefusal (front ++ back) → HasNoRefusal front
-    all-front [] back none = tt
-    all-front (r ∷ rs) back none = (none.0, all-front rs back none.1)
+  -- `Full` is the one answer that the room decides
+  answers_wider : (old : BoundedMap) (call : Call) (answer : Answer) (new : BoundedMap) →
+      Answers old call answer new → IsSomeAnd (reply_of call answer) IsNoRefusal →
+      Widens old new (Answers (with_room old) call answer (with_room new))
+  answers_wider old (call.Get k) Full new does none = absurd none
+  answers_wider old (call.Put k v) Full new does none = absurd none
+  answers_wider old (call.Remove k) Full new does none = absurd none
+  answers_wider old (call.Next from) Full new does none = absurd none
+  answers_wider old call Worn new does none = absurd does
+  answers_wider old call answer new does none = makes_wider old new call answer does
 
-    all-back : (front back : List Reply) → HasNoRefusal (front ++ back) → HasNoRefusal back
-    all-back [] back none = none
-    all-back (r ∷ rs) back none = all-back rs back none.1
+-- ---- sessions ----
 
-    session : (old : Log) (rs : List Request) (replies : List Reply) (new : Log) →
-        Session (AnswersAlone l) old rs replies new → HasNoRefusal replies →
-        Means old new (Session Answers (plain old) rs replies (plain new))
-    session old [] replies new s none = asks_nothing old new replies [] s
-    session old (r ∷ rs) replies new (mid, first, rest, does, goes_on, is) none =
-        let all = subst HasNoRefusal is none in
-        let step = exchange old r first mid does (all-front first rest all) in
-        let tail = session mid rs rest new goes_on (all-back first rest all) in (
-          omega (arith, step.0, tail.0),
-          λ within. (
-            plain mid,
-            first,
-            rest,
-            step.1 (omega (arith, tail.0)),
-            tail.1 within,
-            is,
-          ),
-        )
+all-front : (front back : List Reply) → HasNoRefusal (front ++ back) → HasNoRefusal front
+all-front [] back none = tt
+all-front (r ∷ rs) back none = (none.0, all-front rs back none.1)
+
+all-back : (front back : List Reply) → HasNoRefusal (front ++ back) → HasNoRefusal back
+all-back [] back none = none
+all-back (r ∷ rs) back none = all-back rs back none.1
+
+-- an answerer that is told by a plain map: each call that it does not refuse is one of the map, where what it
+-- comes to fits
+module _ {A : Type 0} (asks : A → Call → Answer → A → Type 0) (plain_of : A → BoundedMap)
+    (Grows : A → A → Type 0) (Fits : A → Type 0)
+    (stays : (old new : A) → new ≡ old → Grows old new)
+    (goes_on : (old mid new : A) → Grows old mid → Grows mid new → Grows old new)
+    (fits : (old new : A) → Grows old new → Fits new → Fits old)
+    (means : (old : A) (call : Call) (answer : Answer) (new : A) → asks old call answer new →
+    IsSomeAnd (reply_of call answer) IsNoRefusal →
+    Grows old new × (Fits new → Answers (plain_of old) call answer (plain_of new))) where
+  abbrev Comes : A → A → Type 0 → Type 0
+  Comes old new meaning = Grows old new × (Fits new → meaning)
+
+  tells : (old : A) (call : Call) (replies : List Reply) (new : A) →
+      Tells asks old call replies new → HasNoRefusal replies →
+      Comes old new (Tells Answers (plain_of old) call replies (plain_of new))
+  tells old call replies new (answer, reply, does, told, is) none =
+      let fine = subst HasNoRefusal is none in
+      let step = means old call answer new does
+      (subst (λ (z : Option Reply). IsSomeAnd z IsNoRefusal) (sym told) fine.0) in
+      (step.0, λ within. (answer, reply, step.1 within, told, is))
+
+  -- nothing was asked
+  asks_nothing : (old new : A) (replies told : List Reply) → (replies ≡ told) × (new ≡ old) →
+      Comes old new ((replies ≡ told) × (plain_of new ≡ plain_of old))
+  asks_nothing old new replies told (is, same) =
+      (stays old new same, λ within. (is, ap plain_of same))
+
+  exchange : (old : A) (r : Request) (replies : List Reply) (new : A) →
+      Exchange asks old r replies new → HasNoRefusal replies →
+      Comes old new (Exchange Answers (plain_of old) r replies (plain_of new))
+  exchange old (request.Get k) replies new x none = tells old (call.Get k) replies new x none
+  exchange old (request.Put k v) replies new x none = tells old (call.Put k v) replies new x none
+  exchange old (request.Remove k) replies new x none =
+      tells old (call.Remove k) replies new x none
+  exchange old request.Quit replies new x none = asks_nothing old new replies _ x
+  exchange old (request.Bad reason) replies new x none = asks_nothing old new replies _ x
+
+  session : (old : A) (rs : List Request) (replies : List Reply) (new : A) →
+      Session asks old rs replies new → HasNoRefusal replies →
+      Comes old new (Session Answers (plain_of old) rs replies (plain_of new))
+  session old [] replies new s none = asks_nothing old new replies [] s
+  session old (r ∷ rs) replies new (mid, first, rest, does, more, is) none =
+      let all = subst HasNoRefusal is none in
+      let step = exchange old r first mid does (all-front first rest all) in
+      let tail = session mid rs rest new more (all-back first rest all) in (
+        goes_on old mid new step.0 tail.0,
+        λ within. (
+          plain_of mid,
+          first,
+          rest,
+          step.1 (fits mid new tail.0 within),
+          tail.1 within,
+          is,
+        ),
+      )
 
 pub sessions_alone_are_plain : SessionsAloneArePlain
 sessions_alone_are_plain l log requests replies room s none within =
-    let means = session room l [] requests replies log s none in means.1 within
+    let means = session (AnswersAlone l) (plain room) (λ (old new : Log). inserted old ≤ inserted new)
+    (λ (z : Log). inserted z ≤ room)
+    (λ (old new : Log) (same : new ≡ old).
+    subst (λ (z : Log). inserted old ≤ inserted z) (sym same) (omega arith))
+    (λ (old mid new : Log) (one : inserted old ≤ inserted mid) (two : inserted mid ≤ inserted new).
+    omega arith)
+    (λ (old new : Log) (grows : inserted old ≤ inserted new) (below : inserted new ≤ room). omega arith)
+    (answers room l) [] requests replies log s none in
+    means.1 within
+
+-- ---- a plain map of any room ----
+
+-- the same session over a map with more room
+session_wider : (old new : BoundedMap) (requests : List Request) (replies : List Reply) (room : ℕ) →
+    Session Answers old requests replies new → HasNoRefusal replies →
+    Widens room old new (Session Answers (with_room room old) requests replies (with_room room new))
+session_wider old new requests replies room s none =
+    session Answers (with_room room) (λ (m n : BoundedMap). n.room ≡ m.room)
+    (λ (m : BoundedMap). m.room ≤ room)
+    (λ (m n : BoundedMap) (same : n ≡ m). ap (λ (z : BoundedMap). z.room) same)
+    (λ (m mid n : BoundedMap) (one : mid.room ≡ m.room) (two : n.room ≡ mid.room). two ∙ one)
+    (λ (m n : BoundedMap) (same : n.room ≡ m.room) (wide : n.room ≤ room). omega arith)
+    (answers_wider room) old requests replies new s none
+
+-- with room for both, both sessions are of one map, and so they have one text
+pub plain_sessions_have_the_same_replies : PlainSessionsHaveTheSameReplies
+plain_sessions_have_the_same_replies l log room new requests replies others s none plainly none_too =
+    let more = room + inserted log in
+    let one = sessions_alone_are_plain l log requests replies more s none (omega arith) in
+    let two = session_wider (plain room []) new requests others more plainly none_too in
+    let room_is : new.room ≡ room = two.0 in
+    let empty : IsValid (plain more []) = record { rising = tt; within = omega arith } in
+    let same = requests_have_one_text (plain more []) (plain more log) (with_room more new) requests
+    replies others empty one (two.1 (omega arith)) in
+    let pairs : map_of log ≡ new.pairs = ap (λ (z : BoundedMap). z.pairs) same.1 in
+    (same.0, λ j. record { pairs = sym pairs j; room = room_is j })
 
 -- ---- whole conversations ----
 
 conversation : (l : Limits) (log : Log) (room : ℕ) (ended : Ended) (stop : Stop)
     (taken written : List ℕ) (one : Conversation (AnswersAlone l) [] log ended stop taken written) →
-    HasNoRefusal one.replies → inserts [] (changes_of log) ≤ room →
+    HasNoRefusal one.replies → inserted log ≤ room →
     Conversation Answers (plain room []) (plain room log) ended stop taken written
 conversation l log room ended stop taken written one none within = record {
   requests = one.requests;
@@ -218,7 +302,7 @@ conversation l log room ended stop taken written one none within = record {
 
 pub bytes_alone_have_one_text : BytesAloneHaveOneText
 bytes_alone_have_one_text l m log more ended stop other taken written text all one two none none_too =
-    let room = inserts [] (changes_of log) + inserts [] (changes_of more) in
+    let room = inserted log + inserted more in
     let empty : IsValid (plain room []) = record { rising = tt; within = omega arith } in
     let same = bytes_have_one_text (plain room []) (plain room log) (plain room more) ended stop other
     taken written text empty all

@@ -4,7 +4,7 @@ use Rattle.std.specs.Prelude.{◌≡◌, ℕ, ◌≤◌, List, []}
 use Rattle.std.specs.List.{AllByRecursion}
 use Rattle.map_model.specs.History.{inserts}
 use Rattle.map_model.specs.Logs.{Log, changes_of}
-use Rattle.map_model.specs.PlainMap.{Answers}
+use Rattle.map_model.specs.PlainMap.{Answers, BoundedMap}
 use Rattle.wire_commands.specs.declared.request.Request.{Request}
 use Rattle.wire_commands.specs.declared.reply.Reply.{Reply}
 use Rattle.wire_commands.specs.declared.reply.Reply.TheVariants.{Full, Worn}
@@ -35,6 +35,16 @@ SessionsAloneArePlain =
     inserts [] (changes_of log) ≤ room →
     Session Answers (record { pairs = []; room = room }) requests replies
     (record { pairs = map_of log; room = room })
+
+-- requests that are refused neither by the index nor by a plain map that begins empty, whatever the room of that
+-- is, have the same replies from both, and the log tells the map that the plain session leaves
+abbrev pub PlainSessionsHaveTheSameReplies : Type 0
+PlainSessionsHaveTheSameReplies =
+    (l : Limits) (log : Log) (room : ℕ) (new : BoundedMap) (requests : List Request)
+    (replies others : List Reply) →
+    Session (AnswersAlone l) [] requests replies log → HasNoRefusal replies →
+    Session Answers (record { pairs = []; room = room }) requests others new → HasNoRefusal others →
+    (replies ≡ others) × (new ≡ record { pairs = map_of log; room = room })
 
 -- two sessions without a refusal, of the same bytes and ended in the same way, write the same text and
 -- leave the same map, whatever the limits of their indexes are

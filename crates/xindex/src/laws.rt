@@ -1,12 +1,19 @@
 //! What holds of all sessions over an index that nobody else changes.
 //!
 //! The functions do nothing: each has a law for its contract, and so the check proves the law.
-ghost use Rattle.xindex.specs.PlainLaw.{BytesAloneHaveOneText, SessionsAloneArePlain};
+ghost use Rattle.xindex.specs.PlainLaw.{BytesAloneHaveOneText, PlainSessionsHaveTheSameReplies};
+ghost use Rattle.xindex.specs.PlainLaw.{SessionsAloneArePlain};
 
 /// Where no reply is `full` or `worn`, the session is one over a plain map too, with the same requests and
 /// replies, and it leaves the map that the log tells.
 pub fn sessions_alone_are_plain()
     ensures { SessionsAloneArePlain }
+{}
+
+/// Where no reply is `full` or `worn`, and an empty plain map, whatever its room, answers the same requests
+/// without `full`, the replies are the same, and the log tells the map that the plain session leaves.
+pub fn plain_sessions_have_the_same_replies()
+    ensures { PlainSessionsHaveTheSameReplies }
 {}
 
 /// Where no reply is `full` or `worn`, what a session writes and the map that it leaves are settled by the
@@ -22,6 +29,7 @@ mod tests {
     #[test]
     fn the_laws_hold_without_a_premise() {
         sessions_alone_are_plain();
+        plain_sessions_have_the_same_replies();
         bytes_alone_have_one_text();
     }
 }

@@ -11,7 +11,9 @@ mod serving;
 mod status;
 mod top;
 
-pub use laws::{bytes_alone_have_one_text, sessions_alone_are_plain};
+pub use laws::{
+    bytes_alone_have_one_text, plain_sessions_have_the_same_replies, sessions_alone_are_plain,
+};
 pub use outcome::Outcome;
 pub use real::{StandardInput, StandardOutput};
 pub use status::Status;

@@ -30,6 +30,14 @@ fn a_session_writes_the_replies_of_its_lines(rt: HostRuntime) -> Result<(), Fail
     let table = [
         (b"".as_slice(), b"".as_slice()),
         (SESSION, REPLIES),
+        (
+            b"put 5 50\nget 5\nput 5 51\nremove 5\nget 5\nremove 5",
+            REPLIES,
+        ),
+        (
+            b"put 5 50\r\nget 5\r\nput 5 51\r\nremove 5\r\nget 5\r\nremove 5\r\n",
+            REPLIES,
+        ),
         (b"put 5 50\r\nget 5\r\nget 6", b"new\nvalue 50\nnone\n"),
         (
             b"put 0 18446744073709551615\nput 18446744073709551615 0\nget 0\nget 18446744073709551615\n",
