@@ -8,3 +8,4 @@ pub mod Names
 pub mod AloneAnswers
 pub mod OwnEvents
 pub mod Undisturbed
+pub mod OneOrder

@@ -11,3 +11,4 @@ pub mod Waiting
 pub mod Fitting
 pub mod Alone
 pub mod Undisturbed
+pub mod OneOrder

@@ -3,6 +3,7 @@
 //! A function here does nothing: it has a law for its contract, and so the check proves the law.
 ghost use Rattle.xindex_core.specs.Alone.{CallersAloneTellTheMap, CallsAloneHaveAnswers};
 ghost use Rattle.xindex_core.specs.Naming.{NamesSettleTheIndex};
+ghost use Rattle.xindex_core.specs.OneOrder.{CallersShareOneOrder};
 ghost use Rattle.xindex_core.specs.Undisturbed.{UndisturbedTriesEnd};
 
 /// Where caller 0 alone changes an index that was opened empty, the log of its calls tells the map, and
@@ -26,4 +27,10 @@ pub fn calls_alone_have_answers()
 /// as it began, or where it met a frozen group.
 pub fn undisturbed_tries_end()
     ensures { UndisturbedTriesEnd }
+{}
+
+/// Once passes of an index know the same, the entries of their logs have one order, and each is true of
+/// the plain map that is run over it.
+pub fn callers_share_one_order()
+    ensures { CallersShareOneOrder }
 {}

@@ -22,8 +22,8 @@ pub use index::{Index, OpenError, Opened};
 pub use index_rule::{Note, Tried, Why};
 pub use keeper::Keeper;
 pub use laws::{
-    callers_alone_tell_the_map, calls_alone_have_answers, names_settle_the_index,
-    undisturbed_tries_end,
+    callers_alone_tell_the_map, callers_share_one_order, calls_alone_have_answers,
+    names_settle_the_index, undisturbed_tries_end,
 };
 pub use named::{NamedKeeper, NamedPass};
 pub use naming::Name;

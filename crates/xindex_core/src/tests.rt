@@ -2,6 +2,7 @@
 ghost use Rattle.std.specs.Prelude.{◌+◌};
 ghost use Rattle.std.specs.Vec.Iter.{into_iter_items};
 ghost use Rattle.xindex_core.specs.Naming.{IsNameOf};
+ghost use Rattle.xindex_core.specs.OneOrder.{IsPassOfCaller};
 ghost use Rattle.xindex_core.specs.Opened.{IsNewlyOpened};
 ghost use Rattle.xindex_core.specs.Passes.{AreNewPasses, IsKeeperOf, IsPassOf};
 
@@ -45,7 +46,7 @@ fn opened(rt: &impl Abort, alloc: Global, limits: Limits) -> Opened
 // The next of the new passes, which has this number.
 fn next_pass(rt: &impl Abort, _index: &Index, _number: u32, passes: &mut IntoIter<Pass>) -> Pass
     requires { AreNewPasses _index.now _number (into_iter_items passes.old) }
-    ensures pass { IsPassOf _index.now result }
+    ensures pass { IsPassOfCaller _index.now _number result }
     ensures others { AreNewPasses _index.now (_number + 1) (into_iter_items passes.new) }
 {
     match passes.next() {

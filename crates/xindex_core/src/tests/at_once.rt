@@ -1,6 +1,8 @@
 //! Four callers at once, each in a thread of its own where one can be made.
-ghost use Rattle.std.specs.Prelude.{◌<◌};
-ghost use Rattle.xindex_core.specs.Passes.{IsPassOf};
+ghost use Rattle.std.specs.Prelude.{◌≡◌, ◌<◌, ◌+◌, [], ◌∷◌};
+ghost use Rattle.xindex_core.specs.Notes.{HeedsNews, StaysAs};
+ghost use Rattle.xindex_core.specs.OneOrder.{AllKnow, HaveOneOrder, IsPassOfCaller};
+ghost use Rattle.xindex_core.specs.Passes.{IsPassOf, known_to, number_of};
 
 use super::orders::{Step, is_last, last_front};
 use super::*;
@@ -15,8 +17,8 @@ use word_layout::Limits;
 // How many calls each caller makes.
 const ROUNDS: u32 = 400;
 
-// How often a call is tried.
-const TRIES: u32 = 1000;
+// How often a call is tried: one that another thread keeps from its answer may need a while.
+const TRIES: u32 = 1_000_000;
 
 // What a call said of a key.
 #[derive(Clone, Copy)]
@@ -28,15 +30,23 @@ struct Seen {
 // A pass of each caller.
 type Passes = (Pass, Pass, Pass, Pass);
 
-// A pass that came back, and what its caller saw.
-type Visit = (Pass, Result<Vec<Seen>, AllocError>);
+// What the calls of a caller came to: what it saw, and how many were refused, or given up.
+#[derive(Drop)]
+struct Came {
+    seen: Vec<Seen>,
+    refused: usize,
+    given_up: usize,
+}
+
+// A pass that came back, and what its calls came to.
+type Visit = (Pass, Result<Came, AllocError>);
 
 // A new index for four callers, with room for some hundred keys.
 fn opened_for_four(rt: &impl Abort, alloc: Global) -> (Index, Passes)
-    ensures first { IsPassOf result.0 result.1.0 }
-    ensures second { IsPassOf result.0 result.1.1 }
-    ensures third { IsPassOf result.0 result.1.2 }
-    ensures fourth { IsPassOf result.0 result.1.3 }
+    ensures first { IsPassOfCaller result.0 0 result.1.0 }
+    ensures second { IsPassOfCaller result.0 1 result.1.1 }
+    ensures third { IsPassOfCaller result.0 2 result.1.2 }
+    ensures fourth { IsPassOfCaller result.0 3 result.1.3 }
 {
     let limits = Limits {
         callers: 4,
@@ -72,7 +82,8 @@ fn call_of(caller: u32, round: u32, keys: u64) -> (u64, Call)
 // Makes the call, once.
 fn tried(index: &Index, pass: &mut Pass, call: Call) -> Tried<Option<u64>>
     requires { IsPassOf index.now pass.old }
-    ensures { IsPassOf index.now pass.new }
+    ensures pass { IsPassOf index.now pass.new }
+    ensures number { number_of pass.new ≡ number_of pass.old }
 {
     match call {
         Call::Get { key } | Call::Next { from: key } => pass.try_get(index, key),
@@ -81,19 +92,21 @@ fn tried(index: &Index, pass: &mut Pass, call: Call) -> Tried<Option<u64>>
     }
 }
 
-// What the key had before the call, where it came to an answer.
-fn answered(index: &Index, pass: &mut Pass, call: Call) -> Option<Option<u64>>
+// What the call came to in the end: it was given up where it is still to be tried again.
+fn answered(index: &Index, pass: &mut Pass, call: Call) -> Tried<Option<u64>>
     requires { IsPassOf index.now pass.old }
-    ensures { IsPassOf index.now pass.new }
+    ensures pass { IsPassOf index.now pass.new }
+    ensures number { number_of pass.new ≡ number_of pass.old }
 {
-    for _ in 0..TRIES {
-        match tried(index, pass, call) {
-            Tried::Done(found) => return Some(found),
-            Tried::Again(_) => thread::yield_now(),
-            Tried::Full | Tried::Worn { .. } => return None,
-        }
+    let mut came = tried(index, pass, call);
+    for _ in 1..TRIES {
+        let Tried::Again(_) = came else {
+            break;
+        };
+        thread::yield_now();
+        came = tried(index, pass, call);
     }
-    None
+    came
 }
 
 // What the call made of this value of its key.
@@ -116,30 +129,40 @@ fn calls(
     caller: u32,
     keys: u64,
     pass: &mut Pass,
-) -> Result<Vec<Seen>, AllocError>
+) -> Result<Came, AllocError>
     requires keys { 0 < keys }
-    requires pass { IsPassOf index.now pass.old }
-    ensures { IsPassOf index.now pass.new }
+    requires pass { IsPassOfCaller index.now caller pass.old }
+    ensures { IsPassOfCaller index.now caller pass.new }
 {
     let mut seen = Vec::new(alloc);
+    let mut refused = 0usize;
+    let mut given_up = 0usize;
     for round in 0..ROUNDS {
         let (key, call) = call_of(caller, round, keys);
-        if let Some(found) = answered(index, pass, call) {
-            let step = step_of(call, found);
-            seen.push(Seen { key, step })?;
+        match answered(index, pass, call) {
+            Tried::Done(found) => {
+                let step = step_of(call, found);
+                seen.push(Seen { key, step })?;
+            }
+            Tried::Full | Tried::Worn { .. } => refused = refused.wrapping_add(1),
+            Tried::Again(_) => given_up = given_up.wrapping_add(1),
         }
     }
-    Ok(seen)
+    Ok(Came {
+        seen,
+        refused,
+        given_up,
+    })
 }
 
 // The caller with this pass makes its calls.
 fn visit(index: &Index, alloc: Global, caller: u32, keys: u64, mut pass: Pass) -> Visit
     requires keys { 0 < keys }
-    requires pass { IsPassOf index.now pass }
-    ensures { IsPassOf index.now result.0 }
+    requires pass { IsPassOfCaller index.now caller pass }
+    ensures { IsPassOfCaller index.now caller result.0 }
 {
-    let seen = calls(index, alloc, caller, keys, &mut pass);
-    (pass, seen)
+    let came = calls(index, alloc, caller, keys, &mut pass);
+    (pass, came)
 }
 
 // Two callers at once, of which the first has this number.
@@ -151,25 +174,27 @@ fn visit_by_two<R: Threads + Sync>(
     keys: u64,
     passes: (Pass, Pass),
 ) -> (Visit, Visit)
+    requires number { number < 4 }
     requires keys { 0 < keys }
-    requires first { IsPassOf index.now passes.0 }
-    requires second { IsPassOf index.now passes.1 }
-    ensures first { IsPassOf index.now result.0.0 }
-    ensures second { IsPassOf index.now result.1.0 }
+    requires first { IsPassOfCaller index.now number passes.0 }
+    requires second { IsPassOfCaller index.now (number + 1) passes.1 }
+    ensures first { IsPassOfCaller index.now number result.0.0 }
+    ensures second { IsPassOfCaller index.now (number + 1) result.1.0 }
 {
     let (first, second) = passes;
+    let next = number + 1;
     thread::join(
         rt,
         move || -> Visit
             requires keys { 0 < keys }
-            requires pass { IsPassOf index.now first }
-            ensures { IsPassOf index.entry.now result.0 }
+            requires pass { IsPassOfCaller index.now number first }
+            ensures { IsPassOfCaller index.entry.now number result.0 }
         { visit(index, alloc, number, keys, first) },
         move || -> Visit
             requires keys { 0 < keys }
-            requires pass { IsPassOf index.now second }
-            ensures { IsPassOf index.entry.now result.0 }
-        { visit(index, alloc, number.wrapping_add(1), keys, second) },
+            requires pass { IsPassOfCaller index.now next second }
+            ensures { IsPassOfCaller index.entry.now next result.0 }
+        { visit(index, alloc, next, keys, second) },
     )
 }
 
@@ -182,31 +207,31 @@ fn visit_by_four<R: Threads + Sync>(
     passes: Passes,
 ) -> ((Visit, Visit), (Visit, Visit))
     requires keys { 0 < keys }
-    requires first { IsPassOf index.now passes.0 }
-    requires second { IsPassOf index.now passes.1 }
-    requires third { IsPassOf index.now passes.2 }
-    requires fourth { IsPassOf index.now passes.3 }
-    ensures first { IsPassOf index.now result.0.0.0 }
-    ensures second { IsPassOf index.now result.0.1.0 }
-    ensures third { IsPassOf index.now result.1.0.0 }
-    ensures fourth { IsPassOf index.now result.1.1.0 }
+    requires first { IsPassOfCaller index.now 0 passes.0 }
+    requires second { IsPassOfCaller index.now 1 passes.1 }
+    requires third { IsPassOfCaller index.now 2 passes.2 }
+    requires fourth { IsPassOfCaller index.now 3 passes.3 }
+    ensures first { IsPassOfCaller index.now 0 result.0.0.0 }
+    ensures second { IsPassOfCaller index.now 1 result.0.1.0 }
+    ensures third { IsPassOfCaller index.now 2 result.1.0.0 }
+    ensures fourth { IsPassOfCaller index.now 3 result.1.1.0 }
 {
     let (first, second, third, fourth) = passes;
     thread::join(
         rt,
         move || -> (Visit, Visit)
             requires keys { 0 < keys }
-            requires first { IsPassOf index.now first }
-            requires second { IsPassOf index.now second }
-            ensures first { IsPassOf index.entry.now result.0.0 }
-            ensures second { IsPassOf index.entry.now result.1.0 }
+            requires first { IsPassOfCaller index.now 0 first }
+            requires second { IsPassOfCaller index.now 1 second }
+            ensures first { IsPassOfCaller index.entry.now 0 result.0.0 }
+            ensures second { IsPassOfCaller index.entry.now 1 result.1.0 }
         { visit_by_two(rt, index, alloc, 0, keys, (first, second)) },
         move || -> (Visit, Visit)
             requires keys { 0 < keys }
-            requires third { IsPassOf index.now third }
-            requires fourth { IsPassOf index.now fourth }
-            ensures third { IsPassOf index.entry.now result.0.0 }
-            ensures fourth { IsPassOf index.entry.now result.1.0 }
+            requires third { IsPassOfCaller index.now 2 third }
+            requires fourth { IsPassOfCaller index.now 3 fourth }
+            ensures third { IsPassOfCaller index.entry.now 2 result.0.0 }
+            ensures fourth { IsPassOfCaller index.entry.now 3 result.1.0 }
         { visit_by_two(rt, index, alloc, 2, keys, (third, fourth)) },
     )
 }
@@ -215,23 +240,21 @@ fn visit_by_four<R: Threads + Sync>(
 fn heed_other(index: &Index, pass: &mut Pass, other: &mut Pass)
     requires pass { IsPassOf index.now pass.old }
     requires other { IsPassOf index.now other.old }
-    ensures pass { IsPassOf index.now pass.new }
-    ensures other { IsPassOf index.now other.new }
+    ensures pass { HeedsNews index.now pass.old (known_to other.old) pass.new }
+    ensures other { StaysAs index.now other.old other.new }
 {
     let note = other.tell(index);
     pass.heed(index, note);
 }
 
-// Each pass knows what any of them knew: the news goes round once, and then back to all.
+// The news goes round once, and then back to all: so each pass knows what any of them knew.
 fn told(index: &Index, passes: Passes) -> Passes
-    requires first { IsPassOf index.now passes.0 }
-    requires second { IsPassOf index.now passes.1 }
-    requires third { IsPassOf index.now passes.2 }
-    requires fourth { IsPassOf index.now passes.3 }
-    ensures first { IsPassOf index.now result.0 }
-    ensures second { IsPassOf index.now result.1 }
-    ensures third { IsPassOf index.now result.2 }
-    ensures fourth { IsPassOf index.now result.3 }
+    requires first { IsPassOfCaller index.now 0 passes.0 }
+    requires second { IsPassOfCaller index.now 1 passes.1 }
+    requires third { IsPassOfCaller index.now 2 passes.2 }
+    requires fourth { IsPassOfCaller index.now 3 passes.3 }
+    ensures { let all = result.0 ∷ result.1 ∷ result.2 ∷ result.3 ∷ [] in
+        AllKnow index.now (known_to result.3) 0 all }
 {
     let (mut first, mut second, mut third, mut fourth) = passes;
     heed_other(index, &mut second, &mut first);
@@ -241,6 +264,16 @@ fn told(index: &Index, passes: Passes) -> Passes
     heed_other(index, &mut second, &mut fourth);
     heed_other(index, &mut third, &mut fourth);
     (first, second, third, fourth)
+}
+
+// All that was answered to callers whose passes know the same has one order.
+fn share_one_order(_index: &Index, _passes: &Passes)
+    requires { let all = _passes.now.0 ∷ _passes.now.1 ∷ _passes.now.2 ∷ _passes.now.3 ∷ [] in
+        AllKnow _index.now (known_to _passes.now.3) 0 all }
+    ensures { let all = _passes.now.0 ∷ _passes.now.1 ∷ _passes.now.2 ∷ _passes.now.3 ∷ [] in
+        HaveOneOrder _index.now (known_to _passes.now.3) all }
+{
+    callers_share_one_order();
 }
 
 // What the caller saw of the key, in turn.
@@ -281,6 +314,12 @@ fn assert_gets(rt: &impl Abort, index: &Index, mut pass: Pass, values: &[Option<
     }
 }
 
+// Asserts that each call was answered or refused, and none given up.
+fn assert_all_came(rt: &impl Abort, came: &Came) {
+    assert_eq!(rt; came.seen.len().wrapping_add(came.refused), ROUNDS as usize);
+    assert_eq!(rt; came.given_up, 0);
+}
+
 // Four callers call for so many keys at once: what they saw has one order, at whose end all get the same.
 fn assert_one_order<R: Threads + Sync + Abort>(
     rt: &R,
@@ -294,12 +333,22 @@ fn assert_one_order<R: Threads + Sync + Abort>(
         rt, &index, alloc, keys, passes,
     );
     let (a, b, c, d) = (a?, b?, c?, d?);
-    let seen = (a.as_slice(), b.as_slice(), c.as_slice(), d.as_slice());
+    for came in [&a, &b, &c, &d] {
+        assert_all_came(rt, came);
+    }
+    let seen = (
+        a.seen.as_slice(),
+        b.seen.as_slice(),
+        c.seen.as_slice(),
+        d.seen.as_slice(),
+    );
     let mut left = Vec::new(alloc);
     for key in 0..keys {
         left.push(left_at(rt, alloc, seen, key)?)?;
     }
-    let (first, second, third, fourth) = told(&index, (first, second, third, fourth));
+    let passes = told(&index, (first, second, third, fourth));
+    share_one_order(&index, &passes);
+    let (first, second, third, fourth) = passes;
     assert_gets(rt, &index, first, left.as_slice());
     assert_gets(rt, &index, second, left.as_slice());
     assert_gets(rt, &index, third, left.as_slice());

@@ -1,5 +1,10 @@
-use Rattle.xindex_core.specs.Passes.{IsPassOf}
+use Rattle.std.proofs.Common.{◌≡◌}
+use Rattle.xindex_core.specs.Passes.{IsPassOf, number_of}
 use Rattle.xindex_core.proofs.tests.at_once.answered.Given as goal
 
 abbrev pub invariant-loop : goal.invariant-loop
-invariant-loop l = IsPassOf l.index l.pass
+invariant-loop l =
+    record {
+      pass : IsPassOf l.index l.pass;
+      number : number_of l.pass ≡ number_of l.initial.pass;
+    }

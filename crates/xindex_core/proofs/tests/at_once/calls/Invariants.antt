@@ -1,5 +1,5 @@
-use Rattle.xindex_core.specs.Passes.{IsPassOf}
+use Rattle.xindex_core.specs.OneOrder.{IsPassOfCaller}
 use Rattle.xindex_core.proofs.tests.at_once.calls.Given as goal
 
 abbrev pub invariant-loop-round : goal.invariant-loop-round
-invariant-loop-round l = IsPassOf l.index l.pass
+invariant-loop-round l = IsPassOfCaller l.index l.caller l.pass
