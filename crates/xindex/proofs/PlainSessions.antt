@@ -1,6 +1,7 @@
 -- A session over an index that nobody else changes, in which nothing was refused, as one over a plain map.
 use Rattle.std.proofs.Common.{◌≡◌, ℕ, ◌+◌, ◌≤◌, Bool, true, false, cond, List, [], ◌∷◌, ◌++◌}
-use Rattle.std.proofs.Common.{Option, Some, None, IsSomeAnd, length, refl, sym, ap, subst, ◌∙◌, arith, inl, inr}
+use Rattle.std.proofs.Common.{Option, Some, None, IsSomeAnd, length}
+use Rattle.std.proofs.Common.{refl, sym, ap, subst, ◌∙◌, arith, inl, inr}
 use Rattle.std.specs.Prelude.{is_none}
 use Rattle.std.proofs.lemmas.Bool.{cases_order}
 use Rattle.std.proofs.lemmas.Bool.Decides.{nat_tests}
@@ -190,8 +191,8 @@ all-back : (front back : List Reply) → HasNoRefusal (front ++ back) → HasNoR
 all-back [] back none = none
 all-back (r ∷ rs) back none = all-back rs back none.1
 
--- an answerer that is told by a plain map: each call that it does not refuse is one of the map, where what it
--- comes to fits
+-- an answerer that stands for a plain map: each call that it does not refuse is one of that map, where
+-- what it comes to fits
 module _ {A : Type 0} (asks : A → Call → Answer → A → Type 0) (plain_of : A → BoundedMap)
     (Grows : A → A → Type 0) (Fits : A → Type 0)
     (stays : (old new : A) → new ≡ old → Grows old new)

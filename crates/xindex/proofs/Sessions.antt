@@ -111,7 +111,6 @@ told_by i n old seen new number first none heeds =
       known = known;
       idle = subst (Without n) goes (subst (λ (z : ℕ). Without z heeds.own.0) number heeds.own.2);
       none = heeds.log ∙ none;
-      truthful = heeds.later.truthful;
     }
 
 -- one more of them
@@ -131,7 +130,7 @@ told_none : (i : Index) (seen : Execution) (n : ℕ) (p : Pass) → IsTold i see
 told_none i seen n p told =
     sym
     (sym (ap changes_of told.none)
-    ∙ (told.truthful.logged.complete
+    ∙ (told.of.truthful.logged.complete
     ∙ (λ j. changes_by (told.numbered j) (history (told.known j)))))
 
 -- so it is of each of them
@@ -180,8 +179,8 @@ pub served_alone : (i : Index) (ps : List Pass) → HasServed i ps →
     length ps ≡ (limits (opening_with i)).callers → AllByZero (history (known_to_first ps))
 served_alone i [] served many = absurd served
 served_alone i (p ∷ ps) served many =
-    all_by_zero (opening_with i) (history (known_to p)) served.2.by_callers
-    (λ n low high. none_of i (known_to p) 1 ps served.3 n low (omega arith))
+    all_by_zero (opening_with i) (history (known_to p)) served.0.truthful.by_callers
+    (λ n low high. none_of i (known_to p) 1 ps served.2 n low (omega arith))
 
 -- ---- one more is told ----
 

@@ -36,8 +36,8 @@ SessionsAloneArePlain =
     Session Answers (record { pairs = []; room = room }) requests replies
     (record { pairs = map_of log; room = room })
 
--- requests that are refused neither by the index nor by a plain map that begins empty, whatever the room of that
--- is, have the same replies from both, and the log tells the map that the plain session leaves
+-- requests that are refused neither by the index nor by an empty plain map, whatever its room, have
+-- the same replies from both, and the log tells the map that the plain session leaves
 abbrev pub PlainSessionsHaveTheSameReplies : Type 0
 PlainSessionsHaveTheSameReplies =
     (l : Limits) (log : Log) (room : ℕ) (new : BoundedMap) (requests : List Request)

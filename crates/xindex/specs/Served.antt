@@ -8,8 +8,7 @@ use Rattle.index_machine.specs.Openings.{opening_map}
 use Rattle.xindex_core.specs.declared.index.Index.{Index}
 use Rattle.xindex_core.specs.declared.index.Opened.{Opened}
 use Rattle.xindex_core.specs.declared.pass.Pass.{Pass}
-use Rattle.xindex_core.specs.Callers.{IsTruthful}
-use Rattle.xindex_core.specs.Passes.{IsKeeperOf, IsPassOf, caller_with, known_to, limits_of_index}
+use Rattle.xindex_core.specs.Passes.{IsKeeperOf, IsPassOf, known_to, limits_of_index}
 use Rattle.xindex_core.specs.Passes.{log_of, number_of, opening_with}
 
 -- the log of the first pass
@@ -33,7 +32,6 @@ pub record IsTold (i : Index) (seen : Execution) (number : ℕ) (p : Pass) : Typ
   pub known : known_to p ≡ seen
   pub idle : Without number seen
   pub none : log_of p ≡ []
-  pub truthful : IsTruthful (caller_with i p)
 
 -- so are they all, with rising numbers from this one on
 abbrev pub AreTold : Index → Execution → ℕ → List Pass → Type 0
@@ -44,7 +42,7 @@ AreTold i seen number (p ∷ ps) = IsTold i seen number p × AreTold i seen (num
 abbrev pub HasServed : Index → List Pass → Type 0
 HasServed i [] = ⊥
 HasServed i (p ∷ ps) =
-    IsPassOf i p × (number_of p ≡ 0) × IsTruthful (caller_with i p) × AreTold i (known_to p) 1 ps
+    IsPassOf i p × (number_of p ≡ 0) × AreTold i (known_to p) 1 ps
 
 -- an index that was opened empty with these limits, whose callers but caller 0 made no step: the log of
 -- pass 0 has all its changes

@@ -21,15 +21,3 @@ pub fn plain_sessions_have_the_same_replies()
 pub fn bytes_alone_have_one_text()
     ensures { BytesAloneHaveOneText }
 {}
-
-#[cfg(test)]
-mod tests {
-    use super::*;
-
-    #[test]
-    fn the_laws_hold_without_a_premise() {
-        sessions_alone_are_plain();
-        plain_sessions_have_the_same_replies();
-        bytes_alone_have_one_text();
-    }
-}

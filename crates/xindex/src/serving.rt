@@ -3,7 +3,7 @@ ghost use Rattle.std.specs.Prelude.{◌≡◌, ◌≤◌, ◌<◌, ◌+◌, [], 
 ghost use Rattle.line_session.specs.Ends.{Counts};
 ghost use Rattle.line_session.specs.Served.{Serves};
 ghost use Rattle.xindex_core.specs.Alone.{AllByZero, AnswersAlone, IsAlone};
-ghost use Rattle.xindex_core.specs.Callers.{IsTruthful, seen_by};
+ghost use Rattle.xindex_core.specs.Callers.{seen_by};
 ghost use Rattle.xindex_core.specs.Naming.{IsNameOf};
 ghost use Rattle.xindex_core.specs.Opened.{IsNewlyOpened};
 ghost use Rattle.xindex_core.specs.Passes.{AreNewPasses, IsPassOf, caller_with, known_to};
@@ -88,7 +88,6 @@ fn serve_by<N: Name, R: Wait + Copy, S: Source, K: Sink>(
 fn told_all(index: &Index, mut first: Pass, mut others: Vec<Pass>) -> Vec<Pass>
     requires first { IsPassOf index.now first }
     requires number { number_of first ≡ 0 }
-    requires truthful { IsTruthful (caller_with index.now first) }
     requires others { AreNewPasses index.now 1 others.items }
     requires room { length others.items < vec_capacity others }
     ensures served { HasServed index.now result.items }

@@ -1,5 +1,5 @@
 -- The logs of passes that know the same are logs of one history.
-use Rattle.std.proofs.Common.{◌≡◌, ℕ, zero, suc, ◌+◌, ◌<◌, ◌≤◌, Some, List, [], ◌∷◌, length, slice_get}
+use Rattle.std.proofs.Common.{◌≡◌, ℕ, zero, suc, ◌+◌, ◌<◌, Some, List, [], ◌∷◌, length, slice_get}
 use Rattle.std.proofs.Common.{refl, ap, ◌∙◌, subst, arith, zero-add}
 use Rattle.std.specs.List.{AllByRecursion}
 use Rattle.map_model.specs.History.{History, caller_of}
@@ -16,7 +16,7 @@ use Rattle.index_machine.specs.Words.{limits}
 use Rattle.xindex_core.specs.declared.index.Index.{Index}
 use Rattle.xindex_core.specs.declared.pass.Pass.{Pass}
 use Rattle.xindex_core.specs.OneOrder.{AllKnow, CallersShareOneOrder, logs_of}
-use Rattle.xindex_core.specs.Passes.{known_to, log_of, number_of, opening_with}
+use Rattle.xindex_core.specs.Passes.{log_of, number_of, opening_with}
 
 -- ---- logs ----
 

@@ -11,7 +11,6 @@ use Rattle.index_machine.specs.Rows.{Role}
 use Rattle.index_rule.specs.declared.board.Board.{Board}
 use Rattle.index_rule.specs.declared.hand.Hand.{Hand}
 use Rattle.index_rule.specs.declared.rows.PrivateRow.{PrivateRow}
-use Rattle.index_rule.specs.Hands.{IsHandOf}
 use Rattle.point_calls.specs.PointCalls.{HasSpare}
 use Rattle.xindex_core.specs.declared.index.Index.{Index}
 use Rattle.xindex_core.specs.declared.keeper.Keeper.{Keeper}
@@ -43,19 +42,17 @@ NamesSettleTheIndex =
 
 -- ---- each has one proof ----
 
--- so have equations of openings, of tables and of roles
+-- so have equations of openings
 Opening-set : IsSet Opening
 Opening-set = Coded-set the_row.coded
 
+-- so have those of tables
 TableId-set : IsSet TableId
 TableId-set = Coded-set table_id_coded
 
+-- and of roles
 Role-set : IsSet Role
 Role-set = Prim.hlevel props
-
--- that a hand is one of a board
-IsHandOf-prop : (b : Board) (h : Hand) → IsProp (IsHandOf b h)
-IsHandOf-prop b h = Prim.hlevel (props, Opening-set, TableId-set)
 
 -- that a hand holds its spare row, or none
 HasSpare-prop : (b : Board) (h : Hand) (spare : Option PrivateRow) → IsProp (HasSpare b h spare)

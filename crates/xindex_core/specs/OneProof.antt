@@ -7,7 +7,7 @@ use Rattle.map_model.specs.declared.entries.Change.TheVariants as change
 use Rattle.map_model.specs.declared.entries.Entry.{Entry}
 use Rattle.map_model.specs.declared.entries.Entry.TheVariants.{Look, Made}
 use Rattle.map_model.specs.contracts.entries.Change.{the_row}
-use Rattle.map_model.specs.Entry.{IsFound, StandsBetween}
+use Rattle.map_model.specs.Entry.{IsFound}
 use Rattle.map_model.specs.History.{History, IsLegal, MayFollow, after}
 use Rattle.map_model.specs.Logs.{AllStandIn, IsLogOf, IsOrdered, Log, StandsIn, map_at}
 use Rattle.map_model.specs.Map.{Map}
@@ -20,15 +20,10 @@ use Rattle.xindex_core.specs.Callers.{Caller, IsTruthful, seen_by}
 Change-set : IsSet Change
 Change-set = Coded-set the_row.coded
 
+-- that a look found this
 IsFound-prop : (m : Map) (lo hi : ℕ) (found : Option (ℕ × ℕ)) → IsProp (IsFound m lo hi found)
 IsFound-prop m lo hi None = Prim.hlevel props
 IsFound-prop m lo hi (Some pair) = Prim.hlevel props
-
--- that an entry is true of two maps
-StandsBetween-prop : (m : Map) (entry : Entry) (n : Map) → IsProp (StandsBetween m entry n)
-StandsBetween-prop m (Made place change old) n = Prim.hlevel props
-StandsBetween-prop m (Look place lo hi found) n =
-    let is = IsFound-prop m lo hi found in Prim.hlevel (props, is)
 
 -- that it is true at its place
 StandsIn-prop : (m : Map) (h : History) (entry : Entry) → IsProp (StandsIn m h entry)
@@ -36,6 +31,7 @@ StandsIn-prop m h (Made place change old) = Prim.hlevel (props, Change-set)
 StandsIn-prop m h (Look place lo hi found) =
     let is = IsFound-prop (map_at m h place) lo hi found in Prim.hlevel (props, is)
 
+-- that all of a log are
 AllStandIn-prop : (m : Map) (h : History) (log : Log) → IsProp (AllStandIn m h log)
 AllStandIn-prop m h [] = Prim.hlevel props
 AllStandIn-prop m h (e ∷ es) =
@@ -55,6 +51,7 @@ IsLogOf-prop m caller h log =
     let ordered = IsOrdered-prop log in
     Prim.hlevel (props, Change-set, all, ordered)
 
+-- that a change may follow
 MayFollow-prop : (m : Map) (c : Change) → IsProp (MayFollow m c)
 MayFollow-prop m (change.Put c k v) = Prim.hlevel props
 MayFollow-prop m (change.Remove c k) = Prim.hlevel props
@@ -67,6 +64,7 @@ IsLegal-prop m (c ∷ cs) =
     let rest = IsLegal-prop m cs in
     Prim.hlevel (props, one, rest)
 
+-- that changes are by callers of the index
 AreByCallers-prop : (o : Opening) (h : History) → IsProp (AreByCallers o h)
 AreByCallers-prop o [] = Prim.hlevel props
 AreByCallers-prop o (c ∷ cs) = let rest = AreByCallers-prop o cs in Prim.hlevel (props, rest)

@@ -12,15 +12,15 @@ pub fn callers_alone_tell_the_map()
     ensures { CallersAloneTellTheMap }
 {}
 
+/// Such a caller has an answer to each call of one key.
+pub fn calls_alone_have_answers()
+    ensures { CallsAloneHaveAnswers }
+{}
+
 /// Whoever has a pass or the keeper of an index has one of the index with its name: so it may be wrapped
 /// in a `NamedPass` or a `NamedKeeper`.
 pub fn names_settle_the_index()
     ensures { NamesSettleTheIndex }
-{}
-
-/// Such a caller has an answer to each call of one key.
-pub fn calls_alone_have_answers()
-    ensures { CallsAloneHaveAnswers }
 {}
 
 /// A try is to be tried again only where another hand made a step during it, or held a version lock

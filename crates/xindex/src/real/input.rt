@@ -1,3 +1,4 @@
+//! What is read from a real stream. It tells no bytes.
 ghost use Rattle.std.specs.Prelude.{◌≡◌};
 
 use line_session::{Ends, Source, Took};

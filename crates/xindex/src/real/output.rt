@@ -1,3 +1,4 @@
+//! What is written to a real stream. It tells no bytes.
 ghost use Rattle.std.specs.Prelude.{◌≡◌};
 
 use line_session::{Ends, Gave, Sink};

@@ -1,3 +1,4 @@
+//! Worked sessions, and what stops one.
 use super::*;
 use line_session::{BytesSink, BytesSource};
 use std::test::Fail;
@@ -176,7 +177,9 @@ fn a_record_of_the_last_version_is_worn(rt: HostRuntime) -> Result<(), Fail> {
 }
 
 #[test]
-fn the_index_that_was_asked_is_handed_out(rt: HostRuntime) -> Result<(), Fail> {
+fn a_session_hands_out_a_pass_for_each_caller_and_a_refusal_none(
+    rt: HostRuntime,
+) -> Result<(), Fail> {
     for (words, many) in [(["pipe"].as_slice(), Some(4)), (&["pipe", "--due=0"], None)] {
         let mut source = BytesSource::new(rt.alloc(), SESSION, 7, &[])?;
         let mut sink = BytesSink::new(rt.alloc(), 1000, &[])?;

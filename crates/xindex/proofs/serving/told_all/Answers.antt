@@ -2,9 +2,8 @@
 use Rattle.std.proofs.Common.{◌∙◌, arith, subst, sym}
 use Rattle.std.specs.Prelude.{slice_index_or}
 use Rattle.index_machine.specs.Execution.{Execution}
-use Rattle.xindex_core.specs.Callers.{IsTruthful}
 use Rattle.xindex_core.specs.Notes.{HeedsNews}
-use Rattle.xindex_core.specs.Passes.{known_to, opening_with}
+use Rattle.xindex_core.specs.Passes.{known_to}
 use Rattle.xindex.specs.Served.{AreTold}
 use Rattle.xindex.proofs.Sessions.{told_next}
 use Rattle.xindex.proofs.serving.told_all.Goals as goal
@@ -27,14 +26,6 @@ loop-other-preserved c =
     record {
       first = still.of;
       number = still.number ∙ i.number;
-      truthful = subst IsTruthful
-          (λ j. record {
-            opening = opening_with index;
-            number = sym still.number j;
-            known = sym still.known j;
-            log = sym still.log j;
-          })
-          i.truthful;
       known = still.known ∙ i.known;
       log = still.log ∙ i.log;
       told = next.told;

@@ -1,7 +1,6 @@
 use Rattle.std.proofs.Common.{◌≡◌, ◌+◌, ◌++◌, List, length}
 use Rattle.xindex_core.specs.declared.pass.Pass.{Pass}
-use Rattle.xindex_core.specs.Callers.{IsTruthful}
-use Rattle.xindex_core.specs.Passes.{AreNewPasses, IsPassOf, caller_with, known_to, log_of, number_of}
+use Rattle.xindex_core.specs.Passes.{AreNewPasses, IsPassOf, known_to, log_of, number_of}
 use Rattle.xindex.specs.Served.{AreTold}
 use Rattle.xindex.proofs.serving.told_all.Given as goal
 
@@ -10,7 +9,6 @@ invariant-loop-other l =
     record {
       first : IsPassOf l.index l.first;
       number : number_of l.first ≡ 0;
-      truthful : IsTruthful (caller_with l.index l.first);
       known : known_to l.first ≡ known_to l.initial.first;
       log : log_of l.first ≡ log_of l.initial.first;
       told : List Pass;
