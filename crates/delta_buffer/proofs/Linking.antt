@@ -29,7 +29,7 @@ use Rattle.index_machine.specs.Sections.{IsCaller, IsNoCrossing, StaysInside}
 use Rattle.index_machine.specs.Words.{limits, word}
 use Rattle.index_machine.proofs.Executions.{choice-same}
 use Rattle.machine_buffers.specs.Walks.{IsLinkBefore}
-use Rattle.machine_buffers.proofs.Leave.{leave_while}
+use Rattle.machine_buffers.proofs.InsertPermissions.{permission_while}
 use Rattle.machine_readers.specs.Buffers.{rows}
 use Rattle.machine_readers.proofs.FromOpening.{gaps}
 use Rattle.machine_readers.proofs.ReadSections.{place_on}
@@ -192,7 +192,7 @@ module _ (b : Board) (g place before next : ℕ) (h n : Hand) (can : CanSearch b
         stands = on.stands;
         walkable = on.walkable;
         permission = now b h n d can.of m (λ z t. MayInsertInto z g t)
-            (leave_while o h.number g can.reading.caller (since b h n d can.of m) (known h)
+            (permission_while o h.number g can.reading.caller (since b h n d can.of m) (known h)
             (valid_after b h n d can.of m) (goes_on_inside b h n d can.of m tt) may.permission);
         filled = filled_on;
         behind = subst (λ (x : ℕ). IsLinkBefore o g x before (known n)) (sym key_kept)

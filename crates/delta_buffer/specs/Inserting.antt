@@ -46,8 +46,8 @@ BelongsUntilLinked o hand group key t =
     look (rows group (newer ++ t)) key ≡ None →
     IsNewKeyFor o key group (newer ++ t)
 
--- the caller's row is filled, its key belongs between the two places, and the caller has leave to
--- insert it
+-- the caller's row is filled, its key belongs between the two places, and the caller has an
+-- insert permission
 pub record CanInsert (o : Opening) (hand group place before next : ℕ) (t : Execution)
     : Type 0 where
   pub filled : IsFilled o hand place (word o t (PlaceWord place Link)) t

@@ -20,7 +20,7 @@ use Rattle.index_machine.specs.Forms.{Form, Blank, Unlocked, Locked, Copied, Red
 use Rattle.index_machine.specs.Forms.{with_lock, with_value, without_lock, made_direct, copied_away}
 use Rattle.index_machine.specs.Forms.{put_value, state_word, HasValueWord, IsUnlocked}
 use Rattle.index_machine.specs.Groups.{name_used_again}
-use Rattle.index_machine.specs.RecordConditions.{Makes}
+use Rattle.index_machine.specs.RecordConditions.{IsChangeTo}
 use Rattle.index_machine.specs.Represents.{is_opened_to}
 use Rattle.index_machine.proofs.Executions.{choice-same, choice-other}
 use Rattle.index_machine.proofs.Representing.{none-some}
@@ -236,6 +236,6 @@ begun_phase g group low n x st new old fresh =
     (sym (choice-other g group Open (name_used_again g x) m ∙ used_again_same g x f.0)))
 
 -- the value of a put
-pub put_is : (c y : ℕ) (d : Change) → Makes c false false y d → put_value d ≡ y
+pub put_is : (c y : ℕ) (d : Change) → IsChangeTo c false false y d → put_value d ≡ y
 put_is c y (change.Put b k v) m = m.2
 put_is c y (change.Remove b k) m = let bad = m.1 in cc

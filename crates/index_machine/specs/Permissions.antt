@@ -10,14 +10,14 @@ use Rattle.index_machine.specs.Reaching.{SeesSlot, saw_open, saw_opened, stands_
 
 -- ---- inserting ----
 
--- the hand has leave to insert into the group's buffer: in this read section it saw the group open,
+-- the hand has an insert permission into the group's buffer: in this read section it saw the group open,
 -- or an old group opened to the rebuild that made this one
 abbrev pub MayInsertInto : ℕ → ℕ → Execution → Type 0
 MayInsertInto hand group t =
     (saw_open hand group t ≡ true)
     ⊎ ((first : ℕ) × (rebuild group t ≡ Some first) × (saw_opened hand first t ≡ true))
 
--- no caller has leave to insert into the group's buffer
+-- no caller has an insert permission into the group's buffer
 abbrev pub IsClosedToInserts : Opening → ℕ → Execution → Type 0
 IsClosedToInserts o group t =
     (caller : ℕ) → IsCaller o caller → MayInsertInto caller group t → ⊥

@@ -97,9 +97,9 @@ pub record MayFailLock (o : Opening) (hand place expected found : ℕ) (t : Exec
 
 -- the change of a hand that leaves a place removed or with this value, where it was removed or not
 -- before
-abbrev pub Makes : ℕ → Bool → Bool → ℕ → Change → Type 0
-Makes hand was removed value (change.Put c k v) = (c ≡ hand) × (removed ≡ false) × (v ≡ value)
-Makes hand was removed value (change.Remove c k) =
+abbrev pub IsChangeTo : ℕ → Bool → Bool → ℕ → Change → Type 0
+IsChangeTo hand was removed value (change.Put c k v) = (c ≡ hand) × (removed ≡ false) × (v ≡ value)
+IsChangeTo hand was removed value (change.Remove c k) =
     (c ≡ hand) × (removed ≡ true) × (was ≡ false)
 
 -- the holder of the version lock may unlock the place with this change
@@ -111,7 +111,7 @@ pub record MayUnlock (o : Opening) (t : Execution) (hand place : ℕ) (removed :
   pub value : ℕ
   pub holds : form o place t ≡ Locked hand version was before value
   pub keyed : role_key (role o place t) ≡ Some (key_of d)
-  pub makes : Makes hand was removed value d
+  pub makes : IsChangeTo hand was removed value d
   -- a removed place comes to life again in a buffer alone, and where the key has no live place
   pub revives : was ≡ true →
       (group : ℕ) × (role o place t ≡ InBuffer group (key_of d))
@@ -157,7 +157,7 @@ pub record MayLink (o : Opening) (t : Execution) (hand group place : ℕ) (d : C
   pub link_word : word o t (PlaceWord place part.Link) ≡ next
   pub behind : IsLinkInto o group before t
   pub expected : word o t (link_behind group before) ≡ next
-  pub makes : Makes hand false false value d
+  pub makes : IsChangeTo hand false false value d
   pub permission : MayInsertInto hand group t
   pub belongs : IsBufferFor o (key_of d) group t
   pub not_live_elsewhere : live_place o (key_of d) t ≡ None

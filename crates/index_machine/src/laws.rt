@@ -66,23 +66,3 @@ pub fn all_steps_represent()
 pub fn words_stand_for_the_state()
     ensures { WordsStandForTheState }
 {}
-
-#[cfg(test)]
-mod tests {
-    use super::*;
-
-    #[test]
-    fn the_laws_hold_without_a_premise() {
-        each_row_is_in_one_place();
-        free_stack_is_linked();
-        links_name_rows();
-        held_rows_stay();
-        epochs_count_crossings();
-        read_sections_alternate();
-        holders_are_inside();
-        observed_heads_hold();
-        grace_period_ends_observed_heads();
-        all_steps_represent();
-        words_stand_for_the_state();
-    }
-}

@@ -33,7 +33,7 @@ use Rattle.index_machine.specs.Conditions.{Allowed, Valid}
 use Rattle.index_machine.proofs.Holding.{held_words_on}
 use Rattle.index_machine.proofs.Placing.{buffer_row, holds_on}
 use Rattle.index_machine.proofs.RepresentingAll.{represented}
-use Rattle.machine_buffers.proofs.Leave.{leave_while}
+use Rattle.machine_buffers.proofs.InsertPermissions.{permission_while}
 use Rattle.machine_buffers.proofs.Phases.{true_while}
 use Rattle.machine_buffers.proofs.Walks.{decide, into_buffer, stay_before, walkable_while}
 use Rattle.machine_buffers.specs.Walks.{Decides, IsLinkBefore, IsWalkable}
@@ -198,7 +198,7 @@ still_may_insert o c g p before next n t valid out may hit =
           (λ (z : (j : ℕ) × (role o before T ≡ InBuffer g j) × (j < k)). inr (z.0, z.1)) behind;
       expected = hit;
       makes = (refl, refl, refl);
-      permission = leave_while o c g caller n t valid stay may.permission;
+      permission = permission_while o c g caller n t valid stay may.permission;
       belongs = belongs.0;
       not_live_elsewhere = belongs.1;
       alone = gaps o T valid g k gap;

@@ -12,7 +12,7 @@ use Rattle.index_machine.specs.declared.opening.Opening.{Opening}
 use Rattle.index_machine.specs.Execution.{Execution, Without, event}
 use Rattle.index_machine.specs.Openings.{opening_map}
 use Rattle.index_machine.specs.LivePlaces.{history}
-use Rattle.index_machine.specs.RecordConditions.{Makes}
+use Rattle.index_machine.specs.RecordConditions.{IsChangeTo}
 use Rattle.index_machine.specs.Conditions.{Allowed, Valid}
 use Rattle.index_rule.specs.Built.{AreBuilt}
 use Rattle.index_rule.specs.Rule.{log_after}
@@ -28,7 +28,7 @@ built_before (e ∷ newer) t built = built_before newer t built.1
 
 -- a change that a hand makes is by this hand
 by_maker : (hand : ℕ) (was removed : Bool) (value : ℕ) (d : Change) →
-    Makes hand was removed value d → caller_of d ≡ hand
+    IsChangeTo hand was removed value d → caller_of d ≡ hand
 by_maker hand was removed value (change.Put c k v) m = m.0
 by_maker hand was removed value (change.Remove c k) m = m.0
 

@@ -22,7 +22,7 @@ use Rattle.index_rule.specs.Rule.{Follows, HasLog, Kept, Knows, number}
 use Rattle.index_rule.specs.Rule.{first_of}
 use Rattle.index_rule.specs.Hands.{IsHandOf, known, opening_of, view}
 use Rattle.index_rule.specs.Moments.{IsBetween, IsWithin}
-use Rattle.index_rule.specs.Looks.{MayNote, Notes, with_look}
+use Rattle.index_rule.specs.Looks.{MayWriteLook, TellsLook, with_look}
 use Rattle.index_rule.proofs.Moments.{history_on, moments_within}
 use Rattle.index_rule.proofs.Steps.{follows_of, is_some, kept_with, one_opening}
 
@@ -32,7 +32,7 @@ use Rattle.index_rule.proofs.Steps.{follows_of, is_some, kept_with, one_opening}
 opening-rising : (o : Opening) → IsRising (opening_map o)
 opening-rising o = o.rising
 
--- a look that is noted goes to the end of the log
+-- a look that is written goes to the end of the log
 look_more : (o : Opening) (c : ℕ) (v : View) (moment : Execution) (key : ℕ) (found : Option ℕ) →
     Continues moment v.known → value_in_map o key moment ≡ found →
     least_place v.log ≤ length (history moment) →
@@ -54,7 +54,7 @@ notes : (o : Opening) (slots id : ℕ) (me : Me (Unit {0}) View) (a : ℕ) (star
     (found : Option ℕ) (moment : Execution) → me.0.opening ≡ Some o →
     IsBetween (number me.0) start.known me.0.known moment → value_in_map o key moment ≡ found →
     least_place me.0.log ≤ length (history moment) →
-    Allows (Kept o) slots id me a (λ n. n) (λ n x. Notes start key found me x)
+    Allows (Kept o) slots id me a (λ n. n) (λ n x. TellsLook start key found me x)
 notes o slots id me a start key found moment live within value least s r _ at _ =
     let v : View = me.0 in
     let k = r.known id v at (is_some v.opening o live) in
@@ -93,7 +93,7 @@ notes o slots id me a start key found moment live within value least s r _ at _ 
 -- ---- the call ----
 
 -- the least place of the next entry lies before any moment of the call
-least_now : (b : Board) (start h : Hand) (key : ℕ) (found : Option ℕ) (may : MayNote b start h key found) →
+least_now : (b : Board) (start h : Hand) (key : ℕ) (found : Option ℕ) (may : MayWriteLook b start h key found) →
     least_place (view h).log ≤ length (history may.moment)
 least_now b start h key found may =
     ∥∥₁_elim (start.following (opening_of b) may.began.opened) (hlevel props)
@@ -106,22 +106,22 @@ least_now b start h key found may =
     ap least_place may.no_entry in
     omega arith)
 
-pub notes_look : (b : Board) (start h : Hand) (key : ℕ) (found : Option ℕ) (slots a : ℕ) →
-    IsHandOf b h → MayNote b start h key found →
+pub writes_look : (b : Board) (start h : Hand) (key : ℕ) (found : Option ℕ) (slots a : ℕ) →
+    IsHandOf b h → MayWriteLook b start h key found →
     Allows (Kept (opening_of b)) slots h.seat.id h.seat.me a (λ n. n)
-    (λ n x. Notes (view start) key found h.seat.me x)
-notes_look b start h key found slots a of may =
+    (λ n x. TellsLook (view start) key found h.seat.me x)
+writes_look b start h key found slots a of may =
     notes (opening_of b) slots h.seat.id h.seat.me a (view start) key found may.moment of.opened
     (subst (λ (z : ℕ). IsBetween z (known start) (known h) may.moment)
     (sym may.number ∙ sym (ap first_of h.mine)) may.within) may.value (least_now b start h key found may)
 
 -- what the load told is what the call says
-pub noted : (b : Board) (start h : Hand) (x : Me (Unit {0}) View) (key : ℕ) (found : Option ℕ) →
-    IsHandOf b h → MayNote b start h key found → Notes (view start) key found h.seat.me x →
+pub look_written : (b : Board) (start h : Hand) (x : Me (Unit {0}) View) (key : ℕ) (found : Option ℕ) →
+    IsHandOf b h → MayWriteLook b start h key found → TellsLook (view start) key found h.seat.me x →
     (moment : Execution) × IsWithin start h moment
     × (value_in_map (opening_of b) key moment ≡ found)
     × (x.0 ≡ with_look (view h) moment key found)
-noted b start h x key found of may told = (
+look_written b start h x key found of may told = (
   told.moment,
   subst (λ (z : ℕ). IsBetween z (known start) (known h) told.moment)
       (ap first_of h.mine ∙ may.number) told.within,

@@ -32,7 +32,7 @@ use Rattle.index_machine.specs.Permissions.{IsBufferFor, MayInsertInto}
 use Rattle.index_machine.specs.LivePlaces.{live_place}
 use Rattle.index_machine.specs.RecordConditions.{HasKey, HoldsNoLock, IsAt, IsInArrayOf, MayLookAt}
 use Rattle.index_machine.specs.RecordConditions.{MayFailLock, MayLoadKey, MayLoadState, MayLoadValue, MayLock}
-use Rattle.index_machine.specs.RecordConditions.{Makes, MayUnlock}
+use Rattle.index_machine.specs.RecordConditions.{IsChangeTo, MayUnlock}
 use Rattle.index_machine.specs.Conditions.{Valid}
 use Rattle.index_machine.proofs.Executions.{valid_before}
 use Rattle.index_machine.proofs.Holders.{holds_no_lock_on}
@@ -244,7 +244,7 @@ may_unlock o c p removed u newer may valid out now keyed same =
     key false = sym (ap or_zero keyed.1)
 
     makes : (r : Bool) → removed ≡ r →
-        Makes c may.holds.locked.1 r may.holds.locked.3 (change_by o c p r u)
+        IsChangeTo c may.holds.locked.1 r may.holds.locked.3 (change_by o c p r u)
     makes true e = (
       refl,
       refl,

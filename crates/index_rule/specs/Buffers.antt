@@ -77,7 +77,7 @@ BelongsWhileAbsent o hand group k t =
     look (rows group (newer ++ t)) k ≡ None →
     IsNewKeyFor o k group (newer ++ t)
 
--- the caller may link its filled row between these two places, with leave to insert
+-- the caller may link its filled row between these two places, with an insert permission
 pub record MayInsertRow (o : Opening) (hand group place before next : ℕ) (t : Execution)
     : Type 0 where
   pub reading : IsReading o hand t

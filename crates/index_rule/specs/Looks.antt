@@ -20,7 +20,7 @@ with_look v moment key found =
     record v { log = Look (length (history moment)) key key (pair_at key found) ∷ v.log }
 
 -- what the load that writes a look of the call that began so tells its hand
-pub record Notes (start : View) (key : ℕ) (found : Option ℕ) (m x : Me (Unit {0}) View)
+pub record TellsLook (start : View) (key : ℕ) (found : Option ℕ) (m x : Me (Unit {0}) View)
     : Type 0 where
   pub moment : Execution
   pub within : IsBetween (number m.0) start.known m.0.known moment
@@ -31,7 +31,7 @@ pub record Notes (start : View) (key : ℕ) (found : Option ℕ) (m x : Me (Unit
 
 -- the caller began its call so, has added no entry since, and knows a moment of the call at which the
 -- key had this value, or none
-pub record MayNote (b : Board) (start h : Hand) (key : ℕ) (found : Option ℕ) : Type 0 where
+pub record MayWriteLook (b : Board) (start h : Hand) (key : ℕ) (found : Option ℕ) : Type 0 where
   pub began : IsHandOf b start
   pub caller : IsCaller (opening_of b) h.number
   pub number : h.number ≡ start.number

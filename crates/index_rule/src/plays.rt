@@ -143,14 +143,14 @@ impl Play<(), View> for LinksRow {
         (link_failed me.0 (word_in me.0 st.word) st.first n)) w };
 }
 
-pub struct NotesLook<L: Sight> {
+pub struct WritesLook<L: Sight> {
     of: PhantomData<L>,
 }
 
-impl<L: Sight> Play<(), View> for NotesLook<L> {
-    ghost use Rattle.index_rule.specs.Looks.{Notes};
+impl<L: Sight> Play<(), View> for WritesLook<L> {
+    ghost use Rattle.index_rule.specs.Looks.{TellsLook};
 
-    ghost then = { λ st me n w. Notes L.start L.key L.found me w };
+    ghost then = { λ st me n w. TellsLook L.start L.key L.found me w };
 }
 
 pub struct SettlesHeard;

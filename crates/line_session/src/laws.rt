@@ -12,14 +12,3 @@ pub fn requests_have_one_text()
 pub fn bytes_have_one_text()
     ensures { BytesHaveOneText }
 {}
-
-#[cfg(test)]
-mod tests {
-    use super::*;
-
-    #[test]
-    fn the_laws_hold_without_a_premise() {
-        requests_have_one_text();
-        bytes_have_one_text();
-    }
-}

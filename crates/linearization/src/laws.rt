@@ -17,15 +17,3 @@ pub fn logs_stand_in_the_weave()
 pub fn others_have_no_entry()
     ensures { OthersHaveNoEntry }
 {}
-
-#[cfg(test)]
-mod tests {
-    use super::*;
-
-    #[test]
-    fn the_laws_hold_without_a_premise() {
-        weaves_agree();
-        logs_stand_in_the_weave();
-        others_have_no_entry();
-    }
-}

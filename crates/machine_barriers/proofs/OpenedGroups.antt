@@ -91,7 +91,7 @@ pub made_still : (i g : ℕ) (new x : Option ℕ) (f : ℕ) → i ≢ g → f �
 made_still i g new x f n other e =
     choice-other i g new (unless_named i x) n ∙ still_named i x f other e
 
--- ---- how a hand comes to have leave to insert ----
+-- ---- how a hand comes to have an insert permission ----
 
 -- the hand has it by its own load of a phase
 abbrev pub SeesInsert : ℕ → Action → Execution → Type 0
@@ -118,7 +118,7 @@ insert_gain c g b d t before l =
     ))
     l
 
--- a hand that has leave in a group that was opened before had it before
+-- a hand that has an insert permission in a group that was opened before had it before
 closed_else : (o : Opening) (t : Execution) (b : ℕ) (d : Action) → Allowed o t b d →
     OpenedGroupsHold o t → (c g : ℕ) → IsCaller o c →
     MadeBefore g b d t → MayInsertInto c g (event b d ∷ t) → (f : ℕ) →

@@ -157,7 +157,7 @@ link_behind_opened o c g f h k is n t valid stay s at saw made behind arrays buf
 
 -- ---- absence ----
 
--- the group of a key answers for it to the end of the stay, or was opened
+-- the group of a key answers for it to the end of the read section, or was opened
 own_or_opened : (o : Opening) (c g k : ℕ) → IsCaller o c → (n t : Execution) → Valid o (n ++ t) →
     StaysInside c n → stands_in c g t ≡ true → group_of o k t ≡ g →
     (group_of o k (n ++ t) ≡ g) ⊎ ((f : ℕ) × (phase g (n ++ t) ≡ Opened f))

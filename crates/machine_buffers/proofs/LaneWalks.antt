@@ -138,7 +138,7 @@ row_stays o lane c k q is n t valid stay s w range e =
     all_listed o (n ++ t) valid lane.group k q
     (place_on o c lane.group is q k n t valid stay s (inr here) ∙ here)
 
--- three moments of a stay, and from which key on the link leads to the first row at each
+-- three moments of a read section, and from which key on the link leads to the first row at each
 module _ (o : Opening) (lane : Lane) (c low : ℕ) (is : IsCaller o c) (up : lane.low ≤ low)
     (l n t : Execution) (valid : Valid o (l ++ (n ++ t))) (stay : StaysInside c n)
     (later : StaysInside c l) (s : stands_in c lane.group t ≡ true) (first : IsLinkedLane o lane t)

@@ -6,7 +6,7 @@ pub mod LinkingRows
 pub mod Walkable
 pub mod LaneWalks
 pub mod Phases
-pub mod Leave
+pub mod InsertPermissions
 pub mod Ranges
 pub mod Walks
 pub mod Inserting

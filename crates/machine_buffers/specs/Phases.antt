@@ -40,9 +40,9 @@ OpenedPhasesStay =
     stands_in caller group t ≡ true → phase group t ≡ Opened first →
     phase group (newer ++ t) ≡ Opened first
 
--- leave to insert lasts as long as the read section
-abbrev pub LeaveToInsertStays : Type 0
-LeaveToInsertStays =
+-- an insert permission lasts as long as the read section
+abbrev pub InsertPermissionsLast : Type 0
+InsertPermissionsLast =
     (o : Opening) (caller group : ℕ) → IsCaller o caller → (newer t : Execution) →
     Valid o (newer ++ t) → StaysInside caller newer → MayInsertInto caller group t →
     MayInsertInto caller group (newer ++ t)

@@ -8,7 +8,7 @@ ghost use Rattle.machine_buffers.specs.Inserting.{OpenedBuffersWithoutValueStay}
 ghost use Rattle.machine_buffers.specs.Lanes.{LaneLinksDecide, LaneLinksLeadIntoTheLane};
 ghost use Rattle.machine_buffers.specs.Lanes.{LaneLinksRise, LeftLaneLinksDoNotComeBack};
 ghost use Rattle.machine_buffers.specs.Lanes.{LinkedRowsTakeTheirPlace, OtherLanesStayLinked};
-ghost use Rattle.machine_buffers.specs.Phases.{LeaveToInsertStays, OpenedPhasesStay};
+ghost use Rattle.machine_buffers.specs.Phases.{InsertPermissionsLast, OpenedPhasesStay};
 ghost use Rattle.machine_buffers.specs.Phases.{PhasesBeforeAreTrue};
 ghost use Rattle.machine_buffers.specs.Phases.{PhasesOfKeysAreTrue};
 ghost use Rattle.machine_buffers.specs.Phases.{TruePhasesStay};
@@ -181,9 +181,9 @@ pub fn opened_phases_stay()
     ensures { OpenedPhasesStay }
 {}
 
-/// Leave to insert lasts as long as the read section in which a caller has it.
-pub fn leave_to_insert_stays()
-    ensures { LeaveToInsertStays }
+/// An insert permission lasts as long as the read section in which a caller has it.
+pub fn insert_permissions_last()
+    ensures { InsertPermissionsLast }
 {}
 
 /// A key without a value in the final array of a group has none there while a caller stands in it.

@@ -9,8 +9,8 @@ mod laws;
 pub use laws::{
     arrays_without_value_stay, buffers_are_walkable_or_out_of_use, buffers_before_are_walkable,
     buffers_of_keys_are_walkable, frozen_groups_answer, gaps_are_absent, gaps_behind_are_absent,
-    keys_of_rows_rise, lane_links_decide, lane_links_lead_into_the_lane, lane_links_rise,
-    leave_to_insert_stays, left_lane_links_do_not_come_back, left_links_do_not_come_back,
+    insert_permissions_last, keys_of_rows_rise, lane_links_decide, lane_links_lead_into_the_lane,
+    lane_links_rise, left_lane_links_do_not_come_back, left_links_do_not_come_back,
     linked_rows_stay, linked_rows_stay_until_begun, linked_rows_take_their_place,
     links_before_a_key_decide, links_before_a_key_stay, links_lead_into_the_buffer,
     links_lead_to_the_next_row, links_rise, may_link_behind_opened, may_link_where_seen_open,

@@ -15,7 +15,7 @@ use Rattle.index_machine.specs.LivePlaces.{history, live_place, value_in_map}
 use Rattle.index_machine.specs.Openings.{opening_map}
 use Rattle.index_machine.specs.Places.{first_version, form}
 use Rattle.index_machine.specs.RebuildConditions.{MayDirect}
-use Rattle.index_machine.specs.RecordConditions.{Makes, MayLink, MayUnlock}
+use Rattle.index_machine.specs.RecordConditions.{IsChangeTo, MayLink, MayUnlock}
 use Rattle.index_machine.specs.Rows.{HeldBy, InArray, InBuffer, Role, Unused, emptied, role}
 use Rattle.index_machine.specs.Rows.{role_key}
 use Rattle.index_machine.specs.declared.events.Action.{Action}
@@ -70,11 +70,11 @@ emptied_keeps g (InBuffer h j) away = refl
 emptied_keeps g (InArray h j) away = choice-other h g Unused (InArray h j)
     (λ z. away j (ap (λ (y : ℕ). InArray y j) z))
 
-left_kept : (c : ℕ) (was r : Bool) (y : ℕ) (d : Change) → Makes c was r y d → left_by d ≡ unless r y
+left_kept : (c : ℕ) (was r : Bool) (y : ℕ) (d : Change) → IsChangeTo c was r y d → left_by d ≡ unless r y
 left_kept c was r y (change.Put b k v) m = ap Some m.2 ∙ ap (λ (z : Bool). unless z y) (sym m.1)
 left_kept c was r y (change.Remove b k) m = ap (λ (z : Bool). unless z y) (sym m.1)
 
-put_makes : (c y : ℕ) (d : Change) → Makes c false false y d → put_value d ≡ y
+put_makes : (c y : ℕ) (d : Change) → IsChangeTo c false false y d → put_value d ≡ y
 put_makes c y (change.Put b k v) m = m.2
 put_makes c y (change.Remove b k) m = not_so m.1
 

@@ -9,7 +9,7 @@ use Rattle.index_machine.specs.LivePlaces.{history, live_place, value_in_map}
 use Rattle.index_machine.specs.Openings.{first_version, form_of_row, greatest_key, opening_group}
 use Rattle.index_machine.specs.Openings.{opening_live_place, opening_map}
 use Rattle.index_machine.specs.Places.{form}
-use Rattle.index_machine.specs.RecordConditions.{Makes}
+use Rattle.index_machine.specs.RecordConditions.{IsChangeTo}
 use Rattle.index_machine.specs.Rows.{InArray, role, role_key, role_of_row}
 use Rattle.index_machine.specs.Sections.{IsCaller}
 use Rattle.index_machine.specs.Words.{limits}
@@ -72,12 +72,12 @@ live_places o t valid =
     valid
 
 -- a change of a hand is by this hand
-by_maker : (c : ℕ) (was r : Bool) (y : ℕ) (d : Change) → Makes c was r y d → caller_of d ≡ c
+by_maker : (c : ℕ) (was r : Bool) (y : ℕ) (d : Change) → IsChangeTo c was r y d → caller_of d ≡ c
 by_maker c was r y (change.Put b k v) m = m.0
 by_maker c was r y (change.Remove b k) m = m.0
 
 -- a change may follow where a place of its key had a value, or where it is no remove
-may_follow : (c : ℕ) (was r : Bool) (y x : ℕ) (d : Change) (m : Map) → Makes c was r y d →
+may_follow : (c : ℕ) (was r : Bool) (y x : ℕ) (d : Change) (m : Map) → IsChangeTo c was r y d →
     (was ≡ false → look m (key_of d) ≡ Some x) → MayFollow m d
 may_follow c was r y x (change.Put b k v) m makes had = tt
 may_follow c was r y x (change.Remove b k) m makes had =
@@ -113,7 +113,7 @@ legal_step o t b (LinkRow g q d prior next) valid may old = (
   (subst (IsCaller o) (sym (by_maker b false false may.value d may.makes)) may.caller, old.1),
 )
   where
-    linked_follows : (c y : ℕ) (d : Change) (m : Map) → Makes c false false y d → MayFollow m d
+    linked_follows : (c y : ℕ) (d : Change) (m : Map) → IsChangeTo c false false y d → MayFollow m d
     linked_follows c y (change.Put b k v) m makes = tt
     linked_follows c y (change.Remove b k) m makes = not_so makes.1
 legal_step o t b d valid may old = old

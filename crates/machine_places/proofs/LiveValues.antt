@@ -13,7 +13,7 @@ use Rattle.index_machine.specs.Forms.{with_value, without_lock}
 use Rattle.index_machine.specs.LivePlaces.{live_place, live_place_after}
 use Rattle.index_machine.specs.Places.{first_version, form}
 use Rattle.index_machine.specs.RebuildConditions.{MayDirect}
-use Rattle.index_machine.specs.RecordConditions.{Makes, MayLink, MayUnlock}
+use Rattle.index_machine.specs.RecordConditions.{IsChangeTo, MayLink, MayUnlock}
 use Rattle.index_machine.specs.Rows.{HeldBy, InArray, InBuffer, Role, Unused, role, role_key}
 use Rattle.index_machine.specs.declared.events.Action.{Action}
 use Rattle.index_machine.specs.declared.events.Action.TheVariants.{Close, Copy, LinkRow, Lock}
@@ -38,7 +38,7 @@ drop_role q p s u k none e = go (q == p) e
     go true e = none_some (sym none ∙ e)
     go false e = e
 
-makes_removed : (c : ℕ) (was r : Bool) (y : ℕ) (d : Change) → Makes c was r y d → r ≡ true →
+makes_removed : (c : ℕ) (was r : Bool) (y : ℕ) (d : Change) → IsChangeTo c was r y d → r ≡ true →
     was ≡ false
 makes_removed c was r y (change.Put b k v) m e = let bad : false ≡ true = sym m.1 ∙ e in cc
 makes_removed c was r y (change.Remove b k) m e = m.2

@@ -14,7 +14,7 @@ use Rattle.index_machine.specs.Lists.{AreDistinct, In}
 use Rattle.index_machine.specs.LivePlaces.{history}
 use Rattle.index_machine.specs.OpeningRows.{opening_row}
 use Rattle.index_machine.specs.Openings.{opening_map}
-use Rattle.index_machine.specs.RecordConditions.{Makes, MayLink}
+use Rattle.index_machine.specs.RecordConditions.{IsChangeTo, MayLink}
 use Rattle.index_machine.specs.Rows.{HeldBy, InArray, InBuffer, Role, Unused, emptied, role}
 use Rattle.index_machine.specs.Rows.{role_of_row}
 use Rattle.index_machine.specs.Words.{limits}
@@ -95,7 +95,7 @@ inserts_grow m d h = go (is_inserting (after m h) d)
     go false = omega arith
 
 -- a change that makes a new record inserts, where the key is not in the map
-new_inserts : (c y : ℕ) (d : Change) (m : Map) → Makes c false false y d →
+new_inserts : (c y : ℕ) (d : Change) (m : Map) → IsChangeTo c false false y d →
     look m (key_of d) ≡ None → is_inserting m d ≡ true
 new_inserts c y (change.Put b k v) m makes none =
     ap (λ (x : Option ℕ). is_none x) none

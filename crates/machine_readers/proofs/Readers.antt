@@ -272,7 +272,7 @@ module _ (o : Opening) (starts : Starts o) where
       not_begun g from z = may.closed c is (inr (f, ap (λ (y : ℕ). rebuild y t) z ∙ from, s))
   born_step t b d c f h valid may is s e = e
 
-  -- and over all the steps of a stay in which it saw the group opened
+  -- and over all the steps of a read section in which it saw the group opened
   pub behind_on : (c g f h k : ℕ) → IsCaller o c → g ≢ h → (n t : Execution) → Valid o (n ++ t) →
       StaysInside c n → stands_in c g t ≡ true → saw_opened c f t ≡ true → rebuild h t ≡ Some f →
       IsBehind o t g f h k → IsBehind o (n ++ t) g f h k × (rebuild h (n ++ t) ≡ Some f)

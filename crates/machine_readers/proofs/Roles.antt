@@ -180,7 +180,7 @@ role_stays o t b (NewGroup g low high f) p k may e = go (role o p t) refl
         (λ (n : h ≢ g). inl (ap (emptied g) s ∙ (choice-other h g Unused (InArray h j) n ∙ sym s)))
 role_stays o t b d p k may e = inl refl
 
--- a place that a caller reached keeps its role while the stay lasts
+-- a place that a caller reached keeps its role while the read section lasts
 pub reached_stays : (o : Opening) (t : Execution) (b : ℕ) (d : Action) (c p k : ℕ) →
     Allowed o t b d →
     IsCaller o c → reached c p t ≡ true → role_key (role o p t) ≡ Some k →

@@ -181,7 +181,7 @@ of_key_step o t b d c g k valid may is s of = ⊎_elim
     inl (belongs_on o t b d g k may y.2 y.2 x)) x)
     (λ (x : predecessor o k t ≡ Some g). inr x) of
 
--- over all the steps of a stay
+-- over all the steps of a read section
 pub of_key_on : (o : Opening) (c g k : ℕ) → IsCaller o c → (n t : Execution) →
     Valid o (n ++ t) → StaysInside c n → stands_in c g t ≡ true → IsOfKey o k g t →
     IsOfKey o k g (n ++ t)

@@ -69,8 +69,8 @@ GroupsHoldRecords =
     (o : Opening) (t : Execution) → Valid o t → (group k : ℕ) → IsBufferFor o k group t →
     HoldsRecords o group k t
 
--- so does the group where a caller stands, to the end of its stay, if it was one of these, or the
--- group before, at one moment of the stay
+-- so does the group where a caller stands, to the end of its read section, if it was one of these, or the
+-- group before, at one moment of the read section
 abbrev pub CallersMeetRecords : Type 0
 CallersMeetRecords =
     (o : Opening) (c group k : ℕ) → IsCaller o c → (newer t : Execution) → Valid o (newer ++ t) →

@@ -146,7 +146,7 @@ pub fn groups_hold_records()
 {}
 
 /// Nor does a caller meet what was copied away, in a group of the key where it stands or in the one
-/// before, to the end of its stay.
+/// before, to the end of its read section.
 pub fn callers_meet_records()
     ensures { CallersMeetRecords }
 {}

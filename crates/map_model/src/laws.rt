@@ -29,17 +29,3 @@ pub fn changes_end_logs()
 pub fn looks_end_logs()
     ensures { LooksEndLogs }
 {}
-
-#[cfg(test)]
-mod tests {
-    use super::*;
-
-    #[test]
-    fn the_laws_hold_without_a_premise() {
-        a_call_of_one_key_has_one_answer();
-        logs_end_in_the_history();
-        others_keep_logs();
-        changes_end_logs();
-        looks_end_logs();
-    }
-}

@@ -203,37 +203,37 @@ built_at moment t on built = built_before on.0 moment (subst AreBuilt (sym on.1)
 -- ---- the look that ends a call ----
 
 module _ (b : Board) (start h k : Hand) (key : ℕ) (found : Option ℕ)
-    (noted : AddsLook b start h key found k) (number : k.number ≡ h.number) where
+    (written : AddsLook b start h key found k) (number : k.number ≡ h.number) where
   known_same : known k ≡ known h
-  known_same = ap (λ (v : View). v.known) noted.3
+  known_same = ap (λ (v : View). v.known) written.3
 
   stays : (P : ℕ → Execution → Type 0) → P h.number (known h) → P k.number (known k)
   stays P p =
       subst (λ (z : ℕ × Execution). P z.0 z.1) (λ i. (sym number i, sym known_same i)) p
 
-  pub call_noted : IsHandOf b k → CanCall b h → CanCall b k
-  call_noted of can =
+  pub call_with_look : IsHandOf b k → CanCall b h → CanCall b k
+  call_with_look of can =
       record {
         of = of;
         reading = stays (IsReading (opening_of b)) can.reading;
         holds_none = stays (HoldsNoLock (opening_of b)) can.holds_none;
       }
 
-  pub section_noted : IsOneSection start h → IsOneSection start k
-  section_noted same =
+  pub section_with_look : IsOneSection start h → IsOneSection start k
+  section_with_look same =
       stays (λ z t. crossings z t ≡ crossings start.number (known start)) same
 
-  pub spare_noted : (spare : Option PrivateRow) → HasSpare b h spare → HasSpare b k spare
-  spare_noted (Some row) held =
+  pub spare_with_look : (spare : Option PrivateRow) → HasSpare b h spare → HasSpare b k spare
+  spare_with_look (Some row) held =
       stays (λ z t. Holds (opening_of b) z (place_of_private row) t) held
-  spare_noted None none = stays (HoldsNone (opening_of b)) none
+  spare_with_look None none = stays (HoldsNone (opening_of b)) none
 
   pub looked_up : AddsNoEntry start h → LooksUp b key start found k
   looked_up none = (
-    noted.0,
-    subst (λ (t : Execution). IsBetween start.number (known start) t noted.0) (sym known_same)
-        noted.1,
-    noted.2,
-    ap (λ (v : View). v.log) noted.3
-        ∙ ap (λ (l : Log). Look (length (history noted.0)) key key (pair_at key found) ∷ l) none,
+    written.0,
+    subst (λ (t : Execution). IsBetween start.number (known start) t written.0) (sym known_same)
+        written.1,
+    written.2,
+    ap (λ (v : View). v.log) written.3
+        ∙ ap (λ (l : Log). Look (length (history written.0)) key key (pair_at key found) ∷ l) none,
   )

@@ -11,7 +11,7 @@ use Rattle.machine_places.proofs.Forms.{some_is}
 use Rattle.index_rule.specs.declared.board.Board.{Board}
 use Rattle.index_rule.specs.declared.hand.Hand.{Hand}
 use Rattle.index_rule.specs.Hands.{IsHandOf, Makes, known, opening_of}
-use Rattle.index_rule.specs.Looks.{MayNote}
+use Rattle.index_rule.specs.Looks.{MayWriteLook}
 use Rattle.index_rule.specs.Moments.{AddsNoEntry}
 use Rattle.index_rule.specs.Records.{key_at, or_zero}
 use Rattle.delta_buffer.specs.Searching.{CanSearch, IsReachedRow}
@@ -122,7 +122,7 @@ module _ (b : Board) (start h : Hand) (g key place : ℕ) (i : IsIn b start h) (
 
   -- a value was found
   pub may_note : (k : Hand) (value : ℕ) → IsHandOf b start → AddsNoEntry start k → IsIn b start k →
-      FindsValue b h place value k → MayNote b start k key (Some value)
+      FindsValue b h place value k → MayWriteLook b start k key (Some value)
   may_note k value of none ik found =
       let o = opening_of b in
       let same : key_at o place (known h) ≡ key = ap (λ r. or_zero (role_key r)) row.0 in

@@ -27,7 +27,7 @@ pub(crate) fn link_new(
     requires found { HasFoundGap board.now start.now.value hand.old gap }
     ensures call { CanCall board.now hand.new }
     ensures number { hand.new.number ≡ start.now.value.number }
-    ensures stays { IsOneSection start.now.value hand.new }
+    ensures section { IsOneSection start.now.value hand.new }
     ensures spare { HasSpare board.now hand.new spare.new }
     ensures tells { PutTells board.now gap.key value start.now.value result hand.new }
     ensures full { IsFullOnly spare.old result }

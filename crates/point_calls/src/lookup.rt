@@ -1,6 +1,6 @@
 //! The group of a key, and the look that ends a call which found it or missed it.
 ghost use Rattle.std.specs.Prelude.{◌≡◌, None};
-ghost use Rattle.index_rule.specs.Looks.{MayNote};
+ghost use Rattle.index_rule.specs.Looks.{MayWriteLook};
 ghost use Rattle.index_rule.specs.declared.tried.Tried.TheVariants.{Done};
 ghost use Rattle.point_calls.specs.PointCalls.{CanCall, IsOneSection, KeepsRows, LooksUp};
 ghost use Rattle.point_calls.specs.Lookup.{ComesTo, HasMissed};
@@ -32,7 +32,7 @@ pub(crate) fn miss(
     requires { HasMissed board.now start.now.value hand.old group key }
     ensures call { CanCall board.now hand.new }
     ensures number { hand.new.number ≡ start.now.value.number }
-    ensures stays { IsOneSection start.now.value hand.new }
+    ensures section { IsOneSection start.now.value hand.new }
     ensures rows { KeepsRows board.now start.now.value hand.new }
     ensures done { result ≡ Done None }
     ensures looks { LooksUp board.now key start.now.value None hand.new }
@@ -54,14 +54,14 @@ pub(crate) fn look(
     requires call { CanCall board.now hand.old }
     requires section { IsOneSection start.now.value hand.old }
     requires rows { KeepsRows board.now start.now.value hand.old }
-    requires may { MayNote board.now start.now.value hand.old key found }
+    requires may { MayWriteLook board.now start.now.value hand.old key found }
     ensures call { CanCall board.now hand.new }
     ensures number { hand.new.number ≡ start.now.value.number }
-    ensures stays { IsOneSection start.now.value hand.new }
+    ensures section { IsOneSection start.now.value hand.new }
     ensures rows { KeepsRows board.now start.now.value hand.new }
     ensures done { result ≡ Done found }
     ensures looks { LooksUp board.now key start.now.value found hand.new }
 {
-    board.note_look::<Brand>(hand, start, key, found);
+    board.write_look::<Brand>(hand, start, key, found);
     Tried::Done(found)
 }

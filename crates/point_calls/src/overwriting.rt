@@ -23,7 +23,7 @@ pub(crate) fn overwrite(
     requires found { HasFoundRow board.now start.now.value hand.old row }
     ensures call { CanCall board.now hand.new }
     ensures number { hand.new.number ≡ start.now.value.number }
-    ensures stays { IsOneSection start.now.value hand.new }
+    ensures section { IsOneSection start.now.value hand.new }
     ensures rows { KeepsRows board.now start.now.value hand.new }
     ensures tells { PutTells board.now row.key value start.now.value result hand.new }
     ensures not_full { result ≢ Full }
@@ -49,12 +49,12 @@ fn bring_back(
     requires found { HasFoundTombstone board.now start.now.value hand.old row first }
     ensures call { CanCall board.now hand.new }
     ensures number { hand.new.number ≡ start.now.value.number }
-    ensures stays { IsOneSection start.now.value hand.new }
+    ensures section { IsOneSection start.now.value hand.new }
     ensures rows { KeepsRows board.now start.now.value hand.new }
     ensures tells { PutTells board.now row.key value start.now.value result hand.new }
     ensures not_full { result ≢ Full }
 {
-    // The group is open, so the caller has leave to insert from here on.
+    // The group is open, so the caller has an insert permission from here on.
     board.load_phase(hand, row.group);
     match revive(board, hand, row.place, value) {
         Wrote::Done { old } => Tried::Done(old),

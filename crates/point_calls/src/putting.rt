@@ -27,7 +27,7 @@ pub fn put(
     requires spare { HasSpare board.now hand.old spare.old }
     ensures call { CanCall board.now hand.new }
     ensures number { hand.new.number ≡ hand.old.number }
-    ensures stays { IsOneSection hand.old hand.new }
+    ensures section { IsOneSection hand.old hand.new }
     ensures spare { HasSpare board.now hand.new spare.new }
     ensures tells { PutTells board.now key value hand.old result hand.new }
     ensures full { IsFullOnly spare.old result }

@@ -19,7 +19,7 @@ pub fn remove(board: &Board, hand: &mut Hand, key: u64) -> Tried<Option<u64>>
     requires empty { OpensEmpty board.now }
     ensures call { CanCall board.now hand.new }
     ensures number { hand.new.number ≡ hand.old.number }
-    ensures stays { IsOneSection hand.old hand.new }
+    ensures section { IsOneSection hand.old hand.new }
     ensures rows { KeepsRows board.now hand.old hand.new }
     ensures tells { RemoveTells board.now key hand.old result hand.new }
 {

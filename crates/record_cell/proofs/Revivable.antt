@@ -1,7 +1,7 @@
--- What a caller may revive it may revive to the end of its stay: as long as the row is a tombstone,
+-- What a caller may revive it may revive to the end of its read section: as long as the row is a tombstone,
 -- its key has no live place.
 --
--- The fact to remember: nobody has leave to insert into an opened group, and in a group that was seen
+-- The fact to remember: nobody has an insert permission into an opened group, and in a group that was seen
 -- open the key's row is the tombstone itself.
 use Rattle.std.proofs.Common.{◌≡◌, ◌≢◌, ◌⊎◌, inl, inr, ⊎_elim, ℕ, true, Some, None, Option, []}
 use Rattle.std.proofs.Common.{◌∷◌, ◌++◌, refl, sym, ap, ◌∙◌, subst}
@@ -174,7 +174,7 @@ elsewhere_on o c k g is n t valid stay either =
     ⊎_elim (λ (w : IsOpenTo o c k g t). inl (open_on o c k g is n t valid stay w))
     (λ (w : HasNoneBehindOpened o c k g t). inr (behind_on o c k g is n t valid stay w)) either
 
--- the caller has leave to insert
+-- the caller has an insert permission
 leave : (o : Opening) (c k g : ℕ) (t : Execution) → KnowsNoneElsewhere o c k g t →
     MayInsertInto c g t
 leave o c k g t either =

@@ -27,7 +27,7 @@ use Rattle.record_cell.specs.Writes.{WriteTells, put_at, worn_word}
 
 -- ---- what the caller knows ----
 
--- at a moment of its stay the caller stood in the group, and this was the key's
+-- at a moment of its read section the caller stood in the group, and this was the key's
 pub record StoodInGroupOf (o : Opening) (hand k group : ℕ) (t : Execution) : Type 0 where
   pub earlier : Execution
   pub newer : Execution
@@ -55,7 +55,7 @@ pub record HasNoneBehindOpened (o : Opening) (hand k group : ℕ) (t : Execution
   pub array : ArrayHasNone o t old k
   pub buffer : BufferHasNone o t old k
 
--- in one of these two ways the caller has leave to insert into the group's buffer, and knows that
+-- in one of these two ways the caller has an insert permission into the group's buffer, and knows that
 -- no place of the key elsewhere has a value
 abbrev pub HasNoneElsewhere : Opening → ℕ → ℕ → ℕ → Execution → Type 0
 HasNoneElsewhere o hand k group t =
@@ -70,7 +70,7 @@ pub record MayRevive (o : Opening) (hand place : ℕ) (t : Execution) : Type 0 w
 
 -- ---- the law ----
 
--- what a caller may revive it may revive to the end of its stay, whatever is done until then
+-- what a caller may revive it may revive to the end of its read section, whatever is done until then
 abbrev pub WhatMayBeRevivedStaysSo : Type 0
 WhatMayBeRevivedStaysSo =
     (o : Opening) (hand place : ℕ) (newer t : Execution) → Valid o (newer ++ t) →

@@ -9,7 +9,7 @@ pub fn gone_is_absent()
     ensures { GoneIsAbsent }
 {}
 
-/// The row that a caller may revive it may revive to the end of its stay.
+/// The row that a caller may revive it may revive to the end of its read section.
 pub fn what_may_be_revived_stays_so()
     ensures { WhatMayBeRevivedStaysSo }
 {}

@@ -11,14 +11,3 @@ pub fn no_free_row_means_used_up()
 pub fn used_up_rows_stay_so()
     ensures { UsedUpRowsStaySo }
 {}
-
-#[cfg(test)]
-mod tests {
-    use super::*;
-
-    #[test]
-    fn the_laws_hold_without_a_premise() {
-        no_free_row_means_used_up();
-        used_up_rows_stay_so();
-    }
-}

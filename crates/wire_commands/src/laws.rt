@@ -32,18 +32,3 @@ pub fn no_stream_asks_in_two_ways()
 pub fn a_feed_gives_what_its_bytes_ask()
     ensures { FeedsAsk }
 {}
-
-#[cfg(test)]
-mod tests {
-    use super::*;
-
-    #[test]
-    fn the_laws_hold_without_a_premise() {
-        each_line_has_its_words();
-        each_line_reads();
-        no_line_reads_as_two_requests();
-        each_stream_asks();
-        no_stream_asks_in_two_ways();
-        a_feed_gives_what_its_bytes_ask();
-    }
-}

@@ -55,7 +55,7 @@ pub record EntersAndLeaves (i : Index) (old : Pass) (Does : Hand → Hand → Ty
   pub inside : Hand
   pub done : Hand
   pub enters : Makes i.board old.hand (Enter (next_epoch old.hand.number (known old.hand))) inside
-  pub stays : IsOneSection inside done
+  pub section : IsOneSection inside done
   pub does : Does inside done
   pub leaves : Makes i.board done (Leave (next_epoch done.number (known done))) new.hand
 

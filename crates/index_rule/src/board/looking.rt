@@ -1,19 +1,19 @@
 //! The log of a hand gets a look.
 ghost use Rattle.std.specs.Prelude.{◌≡◌};
 ghost use Rattle.index_rule.specs.Hands.{IsHandOf, view};
-ghost use Rattle.index_rule.specs.Looks.{MayNote, AddsLook};
+ghost use Rattle.index_rule.specs.Looks.{MayWriteLook, AddsLook};
 
 use crate::board::Board;
 use crate::hand::Hand;
 use crate::looks::Sight;
-use crate::plays::NotesLook;
+use crate::plays::WritesLook;
 use std::snapshot::Snapshot;
 
 impl Board {
     /// Writes a look of the call that began at `start` into the hand's log. It loads a word that
     /// nobody reads, and is no event.
     #[inline]
-    pub fn note_look<L: Sight>(
+    pub fn write_look<L: Sight>(
         &self,
         hand: &mut Hand,
         start: &Snapshot<Hand>,
@@ -24,14 +24,14 @@ impl Board {
         requires key { L.key ≡ key }
         requires found { L.found ≡ found }
         requires hand { IsHandOf self.now hand.old }
-        requires may { MayNote self.now start.now.value hand.old key found }
+        requires may { MayWriteLook self.now start.now.value hand.old key found }
         ensures hand { IsHandOf self.now hand.new }
         ensures number { hand.new.number ≡ hand.old.number }
-        ensures noted { AddsLook self.now start.now.value hand.old key found hand.new }
+        ensures written { AddsLook self.now start.now.value hand.old key found hand.new }
     {
         let address = self.layout.free_head() as usize;
         self.words
             .shared
-            .load::<NotesLook<L>>(&mut hand.seat, address);
+            .load::<WritesLook<L>>(&mut hand.seat, address);
     }
 }

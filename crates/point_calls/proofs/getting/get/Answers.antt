@@ -3,7 +3,7 @@ use Rattle.index_machine.specs.Openings.{greatest_key}
 use Rattle.index_rule.specs.declared.hand.Hand.{Hand}
 use Rattle.index_rule.specs.Hands.{known, opening_of}
 use Rattle.index_rule.specs.declared.tried.Tried.{Tried}
-use Rattle.index_rule.specs.Looks.{MayNote}
+use Rattle.index_rule.specs.Looks.{MayWriteLook}
 use Rattle.point_calls.specs.Getting.{GetTells}
 use Rattle.point_calls.specs.Lookup.{HasMissed}
 use Rattle.point_calls.specs.PointCalls.{IsOneSection, KeepsRows, LooksUp}
@@ -88,7 +88,7 @@ look-requires-clause-may c =
     let can = c.find.ensures.search in
     let ik = in_again b h n g key c.in-Row.place i can row s.2 s.0 s.1 s.3 s.5.0 k c.in-Live.value s.1
     s.5.1 s.5.2 in
-    subst (λ (z : Hand). MayNote b z k key (Some c.in-Live.value)) (sym c.of-start.ensures)
+    subst (λ (z : Hand). MayWriteLook b z k key (Some c.in-Live.value)) (sym c.of-start.ensures)
     (may_note b h n g key c.in-Row.place i can row k c.in-Live.value c.requires.call.of
     (c.read.ensures.log ∙ (c.find.ensures.log ∙ c.locate-group.ensures.comes.no_entry)) ik
     c.in-Live.ensures.tells)
@@ -114,8 +114,8 @@ miss-requires-in-Gone c =
     (c.read.ensures.log ∙ (c.find.ensures.log ∙ comes.no_entry))
     (group_opened b h l g key comes il.built most) c.in-Gone.ensures.tells)
 
-pub returns-in-Locked-clause-stays : goal.returns-in-Locked-clause-stays
-returns-in-Locked-clause-stays c =
+pub returns-in-Locked-clause-section : goal.returns-in-Locked-clause-section
+returns-in-Locked-clause-section c =
     let b = c.args.board.now in
     let h = c.args.hand.now in
     let l = c.locate-group.new.hand in
@@ -156,8 +156,8 @@ returns-in-Locked-clause-tells c =
           c.in-Locked.ensures.steps.1 c.in-Locked.ensures.tells,
     )
 
-pub returns-clause-stays : goal.returns-clause-stays
-returns-clause-stays c =
+pub returns-clause-section : goal.returns-clause-section
+returns-clause-section c =
     let b = c.args.board.now in
     let h = c.args.hand.now in
     let l = c.locate-group.new.hand in

@@ -44,8 +44,8 @@ returns-then-word-clause-call c =
     c.load_phase-word.new.hand c.args.gap.group c.args.gap.key c.load_phase-word.result
     c.requires.found.group_of c.load_phase-word.ensures ∙ sym c.word.ensures))
 
-pub returns-then-word-clause-stays : goal.returns-then-word-clause-stays
-returns-then-word-clause-stays c =
+pub returns-then-word-clause-section : goal.returns-then-word-clause-section
+returns-then-word-clause-section c =
     absurd (c.if-word.true (is_open c.args.board.now c.args.start.now.value c.args.hand.now
     c.load_phase-word.new.hand c.args.gap.group c.args.gap.key c.load_phase-word.result
     c.requires.found.group_of c.load_phase-word.ensures ∙ sym c.word.ensures))
@@ -112,8 +112,8 @@ link_address-requires-clause-place c =
     below_some : (n : ℕ) → n ≡ 0 → n < 2 ^ 28
     below_some n is = omega arith
 
-pub returns-in-Done-clause-stays : goal.returns-in-Done-clause-stays
-returns-in-Done-clause-stays c =
+pub returns-in-Done-clause-section : goal.returns-in-Done-clause-section
+returns-in-Done-clause-section c =
     let b = c.args.board.now in
     let h = c.args.start.now.value in
     let r = c.own_row.new.hand in
@@ -154,8 +154,8 @@ returns-in-Done-clause-tells c =
     (ap (change_of b k) is ∙ (λ j. Put (may.number j) (filled.key_word j) (filled.value_word j)))
     c.in-Done.ensures.tells.0
 
-pub returns-in-Raced-clause-stays : goal.returns-in-Raced-clause-stays
-returns-in-Raced-clause-stays c =
+pub returns-in-Raced-clause-section : goal.returns-in-Raced-clause-section
+returns-in-Raced-clause-section c =
     let b = c.args.board.now in
     let h = c.args.start.now.value in
     let r = c.own_row.new.hand in

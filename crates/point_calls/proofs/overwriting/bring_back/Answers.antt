@@ -53,8 +53,8 @@ revive-requires-clause-may c =
     let i = is_in b h n g key seen in
     may_revive b h before n g key c.load_phase.result at m place c.requires.empty stone.found.row
 
-pub returns-in-Done-clause-stays : goal.returns-in-Done-clause-stays
-returns-in-Done-clause-stays c =
+pub returns-in-Done-clause-section : goal.returns-in-Done-clause-section
+returns-in-Done-clause-section c =
     let b = c.args.board.now in
     let h = c.args.start.now.value in
     let before = c.args.hand.now in
@@ -114,8 +114,8 @@ returns-in-Done-clause-tells c =
     adds_whole b h n k (put_at b n place c.args.value) (Put h.number key c.args.value) c.in-Done.old i none
     (put_is b h n g key place i can row c.args.value) c.in-Done.ensures.tells
 
-pub returns-in-Live-clause-stays : goal.returns-in-Live-clause-stays
-returns-in-Live-clause-stays c =
+pub returns-in-Live-clause-section : goal.returns-in-Live-clause-section
+returns-in-Live-clause-section c =
     let b = c.args.board.now in
     let h = c.args.start.now.value in
     let before = c.args.hand.now in
@@ -222,7 +222,7 @@ returns-in_default c =
     record {
       call = search rules;
       number = ik.number;
-      stays = ik.section;
+      section = ik.section;
       rows = ik.rows;
       tells = tells;
       not_full = search rules;

@@ -40,8 +40,8 @@ bring_back-requires-clause-found c =
     let s = c.in-Gone.ensures.steps in
     found_stone b h n k c.args.row s.0 c.in-Gone.word found s.1 s.2 (c.in-Gone.ensures.tells.0 ∙ none)
 
-pub returns-in-Done-clause-stays : goal.returns-in-Done-clause-stays
-returns-in-Done-clause-stays c =
+pub returns-in-Done-clause-section : goal.returns-in-Done-clause-section
+returns-in-Done-clause-section c =
     let b = c.args.board.now in
     let h = c.args.start.now.value in
     let n = c.args.hand.now in
@@ -126,7 +126,7 @@ returns-in_default c =
     record {
       call = search rules;
       number = ik.number;
-      stays = ik.section;
+      section = ik.section;
       rows = ik.rows;
       tells = tells;
       not_full = search rules;

@@ -43,8 +43,8 @@ kill-requires c =
     ready_row c.args.board.now c.locate-group.result c.args.key c.in-Row.place c.find.new.hand
     c.find.ensures.search c.in-Row.ensures.finds
 
-pub returns-in-Done-clause-stays : goal.returns-in-Done-clause-stays
-returns-in-Done-clause-stays c =
+pub returns-in-Done-clause-section : goal.returns-in-Done-clause-section
+returns-in-Done-clause-section c =
     let b = c.args.board.now in
     let h = c.args.hand.now in
     let l = c.locate-group.new.hand in
@@ -170,7 +170,7 @@ returns c =
     record {
       call = search rules;
       number = ik.number;
-      stays = ik.section;
+      section = ik.section;
       rows = ik.rows;
       tells = tells;
     }

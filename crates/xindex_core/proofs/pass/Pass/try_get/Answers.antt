@@ -40,7 +40,7 @@ returns-clause-tries c =
         inside = c.enter.new.hand;
         done = c.get-answer.new.hand;
         enters = c.enter.ensures.step;
-        stays = c.get-answer.ensures.stays;
+        section = c.get-answer.ensures.section;
         does = tells;
         leaves = c.leave.ensures.step;
       };

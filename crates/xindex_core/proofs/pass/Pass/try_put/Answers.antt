@@ -40,7 +40,7 @@ returns-clause-tries c =
         inside = c.enter.new.hand;
         done = c.put-answer.new.hand;
         enters = c.enter.ensures.step;
-        stays = c.put-answer.ensures.stays;
+        section = c.put-answer.ensures.section;
         does = tells;
         leaves = c.leave.ensures.step;
       };

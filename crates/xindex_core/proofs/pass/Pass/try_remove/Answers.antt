@@ -40,7 +40,7 @@ returns-clause-tries c =
         inside = c.enter.new.hand;
         done = c.remove-answer.new.hand;
         enters = c.enter.ensures.step;
-        stays = c.remove-answer.ensures.stays;
+        section = c.remove-answer.ensures.section;
         does = tells;
         leaves = c.leave.ensures.step;
       };

@@ -1,4 +1,4 @@
--- Leave to insert lasts as long as the read section.
+-- An insert permission lasts as long as the read section.
 use Rattle.std.proofs.Common.{◌≡◌, ℕ, inl, inr, ⊎_elim, Some, true, [], ◌∷◌, ◌++◌, sym}
 use Rattle.std.proofs.Common.{subst}
 use Rattle.index_machine.specs.Conditions.{Allowed, Valid}
@@ -11,10 +11,10 @@ use Rattle.index_machine.specs.declared.events.Action.{Action}
 use Rattle.index_machine.specs.declared.events.Action.TheVariants.{NewGroup}
 use Rattle.index_machine.specs.declared.opening.Opening.{Opening}
 use Rattle.machine_barriers.proofs.OpenedGroups.{made_still, seen_named}
-use Rattle.machine_buffers.specs.Phases.{LeaveToInsertStays}
+use Rattle.machine_buffers.specs.Phases.{InsertPermissionsLast}
 use Rattle.machine_readers.proofs.ReadSections.{saw_open_on, saw_opened_on}
 
--- the rebuild by which a caller has leave still made the group
+-- the rebuild by which a caller has an insert permission still made the group
 made_on : (o : Opening) (t : Execution) (b : ℕ) (d : Action) (c g f : ℕ) → Valid o t →
     Allowed o t b d → IsCaller o c → rebuild g t ≡ Some f → saw_opened c f t ≡ true →
     rebuild g (event b d ∷ t) ≡ Some f
@@ -25,9 +25,9 @@ made_on o t b (NewGroup h low high i) c g f valid may is made saw =
     (inr (f, seen_named o t valid c f is saw, saw)))) made
 made_on o t b d c g f valid may is made saw = made
 
-pub leave_while : LeaveToInsertStays
-leave_while o c g is [] t valid stay l = l
-leave_while o c g is (x ∷ n) t valid stay l =
+pub permission_while : InsertPermissionsLast
+permission_while o c g is [] t valid stay l = l
+permission_while o c g is (x ∷ n) t valid stay l =
     ⊎_elim
     (λ (z : saw_open c g (n ++ t) ≡ true). inl (saw_open_on c g (x ∷ []) (n ++ t) (stay.0, tt) z))
     (λ (z : (f : ℕ) × (rebuild g (n ++ t) ≡ Some f) × (saw_opened c f (n ++ t) ≡ true)).
@@ -36,4 +36,4 @@ leave_while o c g is (x ∷ n) t valid stay l =
       made_on o (n ++ t) x.by x.action c g z.0 valid.1 valid.0 is z.1 z.2,
       saw_opened_on c z.0 (x ∷ []) (n ++ t) (stay.0, tt) z.2,
     ))
-    (leave_while o c g is n t valid.1 stay.1 l)
+    (permission_while o c g is n t valid.1 stay.1 l)
