@@ -4,29 +4,26 @@ use Rattle.map_model.specs.Map.{look}
 use Rattle.index_machine.specs.declared.opening.Opening.{Opening}
 use Rattle.index_machine.specs.Execution.{Execution}
 use Rattle.index_machine.specs.Words.{limits, link_behind, word}
-use Rattle.index_machine.specs.Sections.{IsReading}
 use Rattle.index_machine.specs.Rows.{InBuffer, role}
 use Rattle.index_machine.specs.Reaching.{reached, stands_in}
-use Rattle.index_machine.specs.RecordConditions.{HoldsNoLock}
 use Rattle.machine_readers.specs.Buffers.{rows}
 use Rattle.machine_buffers.specs.Walks.{IsLinkBefore, IsWalkable}
 use Rattle.index_rule.specs.declared.board.Board.{Board}
 use Rattle.index_rule.specs.declared.hand.Hand.{Hand}
 use Rattle.index_rule.specs.Buffers.{IsBehindKey}
-use Rattle.index_rule.specs.Hands.{IsHandOf, known, opening_of}
+use Rattle.index_rule.specs.Calls.{CanCall}
+use Rattle.index_rule.specs.Hands.{known, opening_of}
 use Rattle.index_rule.specs.Moments.{IsWithin}
 use Rattle.delta_buffer.specs.declared.answers.Found.{Found}
 use Rattle.delta_buffer.specs.declared.answers.Found.TheVariants as found
 use Rattle.delta_buffer.specs.Walks.{HasJustMade, load_of_link}
 
--- the caller stands in the group, a walk meets all rows of its buffer, and it holds no version lock
+-- the caller stands in the group, where a walk meets all rows of the buffer
 pub record CanSearch (b : Board) (group : ℕ) (h : Hand) : Type 0 where
-  pub of : IsHandOf b h
-  pub reading : IsReading (opening_of b) h.number (known h)
+  pub call : CanCall b h
   pub stands : stands_in h.number group (known h) ≡ true
   pub walkable : IsWalkable (opening_of b) group (known h)
   pub in_table : group < (limits (opening_of b)).groups
-  pub holds_none : HoldsNoLock (opening_of b) h.number (known h)
 
 -- the place is the row of the key, and the caller came to it by a link
 abbrev pub IsReachedRow : Opening → ℕ → ℕ → ℕ → ℕ → Execution → Type 0

@@ -96,14 +96,14 @@ notes o slots id me a start key found moment live within value least s r _ at _ 
 least_now : (b : Board) (start h : Hand) (key : ℕ) (found : Option ℕ) (may : MayWriteLook b start h key found) →
     least_place (view h).log ≤ length (history may.moment)
 least_now b start h key found may =
-    ∥∥₁_elim (start.following (opening_of b) may.began.opened) (hlevel props)
+    ∥∥₁_elim (start.following (opening_of b) may.so_far.began.opened) (hlevel props)
     (λ (follows : Follows (opening_of b) (view start)).
     let own = follows.logged start.number start.mine in
     let least = end_in_history (opening_map (opening_of b)) start.number (history (known start))
     (view start).log own in
     let grows = (moments_within start.number (known start) (known h) may.moment may.within).0 in
     let same : least_place (view h).log ≡ least_place (view start).log =
-    ap least_place may.no_entry in
+    ap least_place may.so_far.no_entry in
     omega arith)
 
 pub writes_look : (b : Board) (start h : Hand) (key : ℕ) (found : Option ℕ) (slots a : ℕ) →
@@ -113,7 +113,7 @@ pub writes_look : (b : Board) (start h : Hand) (key : ℕ) (found : Option ℕ) 
 writes_look b start h key found slots a of may =
     notes (opening_of b) slots h.seat.id h.seat.me a (view start) key found may.moment of.opened
     (subst (λ (z : ℕ). IsBetween z (known start) (known h) may.moment)
-    (sym may.number ∙ sym (ap first_of h.mine)) may.within) may.value (least_now b start h key found may)
+    (sym may.so_far.number ∙ sym (ap first_of h.mine)) may.within) may.value (least_now b start h key found may)
 
 -- what the load told is what the call says
 pub look_written : (b : Board) (start h : Hand) (x : Me (Unit {0}) View) (key : ℕ) (found : Option ℕ) →
@@ -124,7 +124,7 @@ pub look_written : (b : Board) (start h : Hand) (x : Me (Unit {0}) View) (key : 
 look_written b start h x key found of may told = (
   told.moment,
   subst (λ (z : ℕ). IsBetween z (known start) (known h) told.moment)
-      (ap first_of h.mine ∙ may.number) told.within,
+      (ap first_of h.mine ∙ may.so_far.number) told.within,
   told.value (opening_of b) of.opened,
   told.is,
 )

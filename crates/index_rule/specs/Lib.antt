@@ -4,6 +4,7 @@ pub mod Rule
 pub mod Steps
 pub mod Hands
 pub mod Moments
+pub mod Calls
 pub mod Looks
 pub mod Notes
 pub mod OwnRows

@@ -10,8 +10,9 @@ use Rattle.index_machine.specs.LivePlaces.{history, value_in_map}
 use Rattle.index_rule.specs.declared.board.Board.{Board}
 use Rattle.index_rule.specs.declared.hand.Hand.{Hand}
 use Rattle.index_rule.specs.declared.view.View.{View}
-use Rattle.index_rule.specs.Hands.{IsHandOf, opening_of, view}
-use Rattle.index_rule.specs.Moments.{IsBetween, IsWithin, AddsNoEntry}
+use Rattle.index_rule.specs.Calls.{HasAddedNone}
+use Rattle.index_rule.specs.Hands.{opening_of, view}
+use Rattle.index_rule.specs.Moments.{IsBetween, IsWithin}
 use Rattle.index_rule.specs.Rule.{IsFollowing, number}
 
 -- the seat with the entry that at this moment the key had this value, or none
@@ -29,13 +30,11 @@ pub record TellsLook (start : View) (key : ℕ) (found : Option ℕ) (m x : Me (
   pub bare : x.1 ≡ m.1
   pub following : IsFollowing x.0
 
--- the caller began its call so, has added no entry since, and knows a moment of the call at which the
+-- the caller has added no entry in the call that began so, and knows a moment of the call at which the
 -- key had this value, or none
 pub record MayWriteLook (b : Board) (start h : Hand) (key : ℕ) (found : Option ℕ) : Type 0 where
-  pub began : IsHandOf b start
+  pub so_far : HasAddedNone b start h
   pub caller : IsCaller (opening_of b) h.number
-  pub number : h.number ≡ start.number
-  pub no_entry : AddsNoEntry start h
   pub moment : Execution
   pub within : IsWithin start h moment
   pub value : value_in_map (opening_of b) key moment ≡ found

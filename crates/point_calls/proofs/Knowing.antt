@@ -36,7 +36,8 @@ use Rattle.index_rule.proofs.Stepping.{still_holds_none, valid_known}
 use Rattle.delta_buffer.specs.Walks.{AreWalkOf, IsWalkOf, MakesIn}
 use Rattle.delta_buffer.proofs.CallSteps.{made_in_call}
 use Rattle.delta_buffer.proofs.Stepping.{no_crossing}
-use Rattle.point_calls.specs.PointCalls.{CanCall, HasSpare, IsOneSection, KeepsRows, LooksUp}
+use Rattle.index_rule.specs.Calls.{CanCall}
+use Rattle.point_calls.specs.PointCalls.{HasSpare, IsOneSection, KeepsRows, LooksUp}
 
 -- ---- one step ----
 

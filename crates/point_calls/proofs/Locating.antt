@@ -16,7 +16,7 @@ use Rattle.index_rule.proofs.RecordReading.{no_entry}
 use Rattle.index_rule.proofs.RecordStepping.{still_inside}
 use Rattle.index_rule.proofs.RootStepping.{root_is, sees_after_root, slot_is, stands_after_slot}
 use Rattle.point_calls.specs.Lookup.{ComesTo}
-use Rattle.point_calls.specs.PointCalls.{CanCall}
+use Rattle.index_rule.specs.Calls.{CanCall}
 use Rattle.point_calls.proofs.Knowing.{IsIn, call_on, in_first, in_step}
 
 -- group 0 answers for all keys at the opening

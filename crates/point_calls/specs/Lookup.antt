@@ -11,7 +11,8 @@ use Rattle.index_rule.specs.Buffers.{CanSeePhase}
 use Rattle.index_rule.specs.Hands.{IsHandOf, MakesAll, known, opening_of}
 use Rattle.index_rule.specs.Moments.{AddsNoEntry, IsWithin}
 use Rattle.delta_buffer.specs.Searching.{CanSearch}
-use Rattle.point_calls.specs.PointCalls.{CanCall, IsOneSection, KeepsRows}
+use Rattle.index_rule.specs.Calls.{CanCall}
+use Rattle.point_calls.specs.PointCalls.{IsOneSection, KeepsRows}
 
 -- the caller loaded the root and the group of its one slot, and stands in this group, which answers for
 -- every key

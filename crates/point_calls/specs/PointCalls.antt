@@ -9,14 +9,13 @@ use Rattle.index_machine.specs.declared.events.Action.TheVariants.{LoadState}
 use Rattle.index_machine.specs.Execution.{Execution, event, Continues}
 use Rattle.index_machine.specs.LivePlaces.{history, value_in_map}
 use Rattle.index_machine.specs.Places.{form}
-use Rattle.index_machine.specs.RecordConditions.{HoldsNoLock}
 use Rattle.index_machine.specs.Rows.{Holds, HoldsNone, role, role_key}
-use Rattle.index_machine.specs.Sections.{IsReading, crossings}
+use Rattle.index_machine.specs.Sections.{crossings}
 use Rattle.index_machine.specs.Words.{Store, store_of}
 use Rattle.index_rule.specs.declared.board.Board.{Board}
 use Rattle.index_rule.specs.declared.hand.Hand.{Hand}
 use Rattle.index_rule.specs.declared.rows.PrivateRow.{PrivateRow}
-use Rattle.index_rule.specs.Hands.{IsHandOf, known, opening_of, view}
+use Rattle.index_rule.specs.Hands.{known, opening_of, view}
 use Rattle.index_rule.specs.Moments.{IsWithin}
 use Rattle.index_rule.specs.OwnRows.{place_of_private}
 use Rattle.delta_buffer.specs.Walks.{HasJustMade}
@@ -28,12 +27,6 @@ use Rattle.record_cell.specs.Reads.{IsHeldByAnother}
 -- the index was opened with no rows, so no array has a place for any key
 abbrev pub OpensEmpty : Board → Type 0
 OpensEmpty b = (opening_of b).rows ≡ []
-
--- the hand is of the board, inside its read section, and holds no version lock
-pub record CanCall (b : Board) (h : Hand) : Type 0 where
-  pub of : IsHandOf b h
-  pub reading : IsReading (opening_of b) h.number (known h)
-  pub holds_none : HoldsNoLock (opening_of b) h.number (known h)
 
 -- the spare row is the one that the hand holds; without one it holds none
 abbrev pub HasSpare : Board → Hand → Option PrivateRow → Type 0

@@ -1,6 +1,7 @@
 //! A key is looked up.
 ghost use Rattle.std.specs.Prelude.{◌≡◌};
-ghost use Rattle.point_calls.specs.PointCalls.{CanCall, IsOneSection, KeepsRows, OpensEmpty};
+ghost use Rattle.index_rule.specs.Calls.{CanCall};
+ghost use Rattle.point_calls.specs.PointCalls.{IsOneSection, KeepsRows, OpensEmpty};
 ghost use Rattle.point_calls.specs.Getting.{GetTells};
 
 use crate::lookup::{locate, look, miss};

@@ -1,6 +1,7 @@
 //! A new row for a key is linked.
 ghost use Rattle.std.specs.Prelude.{◌≡◌, MatchResult, None, Some};
-ghost use Rattle.point_calls.specs.PointCalls.{CanCall, HasSpare, IsOneSection, OpensEmpty};
+ghost use Rattle.index_rule.specs.Calls.{CanCall};
+ghost use Rattle.point_calls.specs.PointCalls.{HasSpare, IsOneSection, OpensEmpty};
 ghost use Rattle.point_calls.specs.Putting.{HasFoundGap, IsFullOnly, MayLinkIn, PutTells};
 ghost use Rattle.point_calls.specs.Putting.{GetsNoRow, KeepsSpare};
 

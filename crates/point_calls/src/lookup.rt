@@ -2,7 +2,8 @@
 ghost use Rattle.std.specs.Prelude.{◌≡◌, None};
 ghost use Rattle.index_rule.specs.Looks.{MayWriteLook};
 ghost use Rattle.index_rule.specs.declared.tried.Tried.TheVariants.{Done};
-ghost use Rattle.point_calls.specs.PointCalls.{CanCall, IsOneSection, KeepsRows, LooksUp};
+ghost use Rattle.index_rule.specs.Calls.{CanCall};
+ghost use Rattle.point_calls.specs.PointCalls.{IsOneSection, KeepsRows, LooksUp};
 ghost use Rattle.point_calls.specs.Lookup.{ComesTo, HasMissed};
 
 use index_rule::{Board, Hand, Tried};

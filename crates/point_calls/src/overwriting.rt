@@ -1,7 +1,8 @@
 //! A row that a key has is given a value.
 ghost use Rattle.std.specs.Prelude.{◌≡◌, ◌≢◌};
 ghost use Rattle.index_rule.specs.declared.tried.Tried.TheVariants.{Full};
-ghost use Rattle.point_calls.specs.PointCalls.{CanCall, IsOneSection, KeepsRows, OpensEmpty};
+ghost use Rattle.index_rule.specs.Calls.{CanCall};
+ghost use Rattle.point_calls.specs.PointCalls.{IsOneSection, KeepsRows, OpensEmpty};
 ghost use Rattle.point_calls.specs.Putting.{HasFoundRow, HasFoundTombstone, PutTells};
 
 use crate::found::FoundRow;

@@ -1,6 +1,7 @@
 //! A key is put.
 ghost use Rattle.std.specs.Prelude.{◌≡◌};
-ghost use Rattle.point_calls.specs.PointCalls.{CanCall, HasSpare, IsOneSection, OpensEmpty};
+ghost use Rattle.index_rule.specs.Calls.{CanCall};
+ghost use Rattle.point_calls.specs.PointCalls.{HasSpare, IsOneSection, OpensEmpty};
 ghost use Rattle.point_calls.specs.Putting.{IsFullOnly, KeepsSpare, PutTells};
 
 use crate::found::{FoundRow, Gap};

@@ -4,7 +4,8 @@ ghost use Rattle.index_machine.specs.Words.{limits};
 ghost use Rattle.index_rule.specs.Hands.{opening_of};
 ghost use Rattle.index_rule.specs.Opened.{AreNewHands};
 ghost use Rattle.row_arena.specs.Visits.{IsNew};
-ghost use Rattle.point_calls.specs.PointCalls.{CanCall, HasSpare, OpensEmpty};
+ghost use Rattle.index_rule.specs.Calls.{CanCall};
+ghost use Rattle.point_calls.specs.PointCalls.{HasSpare, OpensEmpty};
 
 use super::*;
 use index_rule::{Board, Hand, Tried};
