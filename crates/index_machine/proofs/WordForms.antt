@@ -121,16 +121,6 @@ value_set q p y n f g new old =
     no_test : (q p : ℕ) → q ≢ p → (q == p) ≡ false
     no_test q p m = ne_eqb q p m
 
--- a state word at one place
-pub state_set : (q p y n : ℕ) (f g : Form) → (q ≡ p → y ≡ state_word f) → n ≡ state_word g →
-    cond ((q == p) && true) y n ≡ state_word (cond (q == p) f g)
-state_set q p y n f g new old =
-    dite (ℕ_discrete q p)
-    (λ (z : q ≡ p). subst (λ (b : Bool). cond (b && true) y n ≡ state_word (cond b f g))
-    (sym (eq-eqb q p z)) (new z))
-    (λ (m : q ≢ p). subst (λ (b : Bool). cond (b && true) y n ≡ state_word (cond b f g))
-    (sym (ne_eqb q p m)) old)
-
 pub state_if : (b : Bool) (n : ℕ) (f g : Form) → n ≡ state_word f → n ≡ state_word g →
     n ≡ state_word (cond b f g)
 state_if true n f g h k = h

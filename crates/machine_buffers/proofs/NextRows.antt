@@ -147,10 +147,6 @@ IsFirstBefore m low end place =
     (i : ℕ) × (look m i ≡ Some place) × (low ≤ i) × IsBefore i end
     × ((j q : ℕ) → look m j ≡ Some q → low ≤ j → i ≤ j)
 
-not_after : (k i : ℕ) (end : Option ℕ) → k ≤ i → IsBefore i end → IsBefore k end
-not_after k i None le is = tt
-not_after k i (Some end) le is = let lt : i < end = is in omega arith
-
 -- a link leads to the first row of the lane from a key on, unless none is left
 pub row_or_none : (m : Map) (low : ℕ) (end : Option ℕ) → IsRising m →
     (HasNoneFrom m low end × (link_from end low m ≡ 0))

@@ -202,6 +202,3 @@ again_2 = event 1 (StoreHeader 0 header.Phase 0) ∷ again_1
 
 abbrev pub again_3 : Execution
 again_3 = event 1 (StoreHeader 0 header.BufferHead 0) ∷ again_2
-
-abbrev pub again_4 : Execution
-again_4 = event 1 (NewGroup 0 0 greatest_key 0) ∷ again_3

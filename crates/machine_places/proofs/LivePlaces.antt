@@ -110,10 +110,6 @@ redirect_if : (b : Bool) (p y : ℕ) (f g : Form) → g ≡ Redirect p y →
 redirect_if true p y f g e h = h
 redirect_if false p y f g e h = (y, e)
 
-redirect_not : {X : Type 0} {p y : ℕ} (f : Form) (x : ℕ) → live_value f ≡ Some x →
-    f ≡ Redirect p y → X
-redirect_not f x l e = none_some (sym (ap live_value e) ∙ l)
-
 -- phases: no opened one is map_after
 opened_if : (g h : ℕ) (x y z : Phase) (f : ℕ) → (g ≡ h → y ≡ Opened f → ⊥) → y ≡ Opened f →
     cond (g == h) x y ≡ Opened f

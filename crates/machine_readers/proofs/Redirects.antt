@@ -187,10 +187,6 @@ old_stays o t b d k a q y may point s = ⊎_elim
     (NewGroup w.0 w.1 w.2 w.3) w.5 may).no_target a q y w.4 point w.6)) z)
     (role_stays o t b d q k may (old_keyed o t k q s))
 
-keys_same : {g a k to h j q : ℕ} → StoreRedirect g a k to ≡ StoreRedirect h a j q →
-    (k ≡ j) × (to ≡ q)
-keys_same e = (cc, cc)
-
 redirects_step : (o : Opening) (t : Execution) (b : ℕ) (d : Action) → Allowed o t b d →
     RedirectsLeadToOld o t → RedirectsLeadToOld o (event b d ∷ t)
 redirects_step o t b d may old a g k q y s e = ⊎_elim
