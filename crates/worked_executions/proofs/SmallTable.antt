@@ -15,7 +15,7 @@ use Rattle.index_machine.specs.declared.events.Action.TheVariants.{StoreRedirect
 use Rattle.index_machine.specs.declared.events.Action.TheVariants.{Unlock}
 use Rattle.index_machine.specs.declared.events.InstallWord.TheVariants.{FirstSlot}
 use Rattle.index_machine.specs.declared.opening.Opening.{Opening}
-use Rattle.machine_keeper.specs.Witness.{small_limits}
+use Rattle.worked_executions.specs.Witness.{small_limits}
 use Rattle.word_layout.specs.declared.layout.Layout.{Layout}
 use Rattle.word_layout.specs.declared.limits.Limits.{Limits}
 use Rattle.word_layout.specs.declared.headers.HeaderWord.TheVariants as header
