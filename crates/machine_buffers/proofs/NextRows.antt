@@ -5,7 +5,7 @@ use Rattle.std.proofs.lemmas.Bool.Decides.{nat_tests}
 use mathlib.Core.Logic.{dite}
 use native.Mathlib.Decide.{ℕ_discrete}
 use Rattle.machine_buffers.specs.Lanes.{IsBefore, before_end, below, place_of_row, link_from}
-use Rattle.machine_places.proofs.Forms.{none_some, some_is}
+use Rattle.index_machine.proofs.Options.{none_some, some_is}
 use Rattle.map_model.proofs.Pairs.{AllAbove}
 use Rattle.map_model.specs.Map.{IsRising, Map, first_from, look, put}
 

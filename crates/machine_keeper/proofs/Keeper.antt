@@ -27,7 +27,7 @@ use Rattle.index_machine.specs.declared.opening.Opening.{Opening}
 use Rattle.machine_barriers.proofs.Reaches.{may_as}
 use Rattle.machine_barriers.specs.Barriers.{IsShutForOldGroups, ReliesOnOld}
 use Rattle.machine_keeper.specs.Marks.{pending_redirect}
-use Rattle.machine_places.proofs.Forms.{none_some, not_so, some_is}
+use Rattle.index_machine.proofs.Options.{none_some, not_so, some_is}
 use Rattle.machine_places.proofs.LivePlaces.{live_place-lives}
 use Rattle.machine_places.specs.Agreement.{LivePlacesStand, MapAgrees}
 pub use Rattle.machine_readers.proofs.LockSteps.{locked_step}

@@ -31,7 +31,7 @@ use Rattle.index_machine.specs.declared.events.Action.TheVariants.{Unlock}
 use Rattle.index_machine.specs.declared.events.InstallWord.{InstallWord}
 use Rattle.index_machine.specs.declared.opening.Opening.{Opening}
 use Rattle.machine_places.proofs.Agreement.{emptied_keeps, map_agrees}
-use Rattle.machine_places.proofs.Forms.{none_some, some_is, still_named}
+use Rattle.index_machine.proofs.Options.{none_some, some_is, still_named}
 use Rattle.machine_places.proofs.LiveValues.{only_live}
 use Rattle.machine_places.specs.Agreement.{HasLiveValue, LivePlacesStand, MapAgrees, OnlyLive}
 use Rattle.map_model.specs.Map.{key_of}

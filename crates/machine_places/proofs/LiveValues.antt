@@ -23,7 +23,8 @@ use Rattle.index_machine.specs.declared.events.Action.TheVariants.{StoreRedirect
 use Rattle.index_machine.specs.declared.events.Action.TheVariants.{Unlock}
 use Rattle.index_machine.specs.declared.opening.Opening.{Opening}
 use Rattle.machine_places.proofs.Forms.{emptied_back, live_value-with_lock, live_value-with_value}
-use Rattle.machine_places.proofs.Forms.{live_value_if, none_some, some_is}
+use Rattle.index_machine.proofs.Options.{none_some, some_is}
+use Rattle.machine_places.proofs.Forms.{live_value_if}
 use Rattle.machine_places.specs.Agreement.{OnlyLive}
 use Rattle.map_model.specs.Map.{key_of}
 use Rattle.map_model.specs.declared.entries.Change.{Change}

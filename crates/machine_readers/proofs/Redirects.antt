@@ -25,7 +25,7 @@ use Rattle.index_machine.specs.declared.opening.Opening.{Opening}
 use Rattle.machine_barriers.proofs.OpenedGroups.{frozen_not, open_not}
 use Rattle.machine_barriers.proofs.Reaches.{may_as}
 use Rattle.machine_barriers.specs.Barriers.{OpenedGroupsHold}
-use Rattle.machine_places.proofs.Forms.{none_some}
+use Rattle.index_machine.proofs.Options.{none_some}
 use Rattle.machine_readers.proofs.Roles.{EndsRole, array_back, role_stays}
 use Rattle.machine_readers.proofs.Tombstones.{IsNotRevivable, removed_step}
 use Rattle.machine_readers.specs.Redirects.{HasNoValue, IsOldPlace, RedirectsLeadToOld}

@@ -16,7 +16,7 @@ use Rattle.index_machine.specs.declared.events.Action.TheVariants.{StoreDirect, 
 use Rattle.index_machine.specs.declared.events.Action.TheVariants.{StoreRedirect, StoreValue}
 use Rattle.index_machine.specs.declared.events.Action.TheVariants.{Unlock}
 use Rattle.index_machine.specs.declared.opening.Opening.{Opening}
-use Rattle.machine_places.proofs.Forms.{none_some}
+use Rattle.index_machine.proofs.Options.{none_some}
 use Rattle.machine_readers.specs.Readers.{KeepsKey}
 
 -- past every unlocked state of the version v

@@ -25,7 +25,7 @@ use Rattle.word_layout.specs.Words.{Header}
 use Rattle.index_machine.specs.declared.events.InstallWord.TheVariants.{FirstSlot}
 use Rattle.machine_barriers.proofs.OpenedGroups.{open_not}
 use Rattle.worked_executions.specs.NameUsedAgain.{NamesAreUsedAgain}
-use Rattle.machine_places.proofs.Forms.{named_before, none_some, not_so, some_is}
+use Rattle.index_machine.proofs.Options.{named_before, none_some, not_so, some_is}
 use Rattle.word_layout.specs.declared.headers.HeaderWord.TheVariants as header
 use Rattle.word_layout.specs.declared.phase.Phase.TheVariants.{Open, Opened}
 use Rattle.worked_executions.proofs.FourGroups.{o, frozen_0, step_1, step_2}

@@ -30,7 +30,7 @@ use Rattle.worked_executions.proofs.SmallTable.{changed_2, changed_3, changed_4,
 use Rattle.worked_executions.proofs.SmallTable.{changed_8, l, o, opened_1, opened_2, opened_3}
 use Rattle.worked_executions.proofs.SmallTable.{put_1, put_10}
 use Rattle.worked_executions.proofs.SmallTable.{put_12, put_2, put_3, put_4, put_5, put_6, put_7}
-use Rattle.machine_places.proofs.Forms.{none_some, not_so, some_is}
+use Rattle.index_machine.proofs.Options.{none_some, not_so, some_is}
 use Rattle.index_machine.specs.Words.{word}
 use Rattle.word_layout.specs.Words.{Header}
 use Rattle.word_layout.specs.declared.phase.Phase.TheVariants.{Frozen, Open, Opened}

@@ -36,7 +36,7 @@ use Rattle.worked_executions.proofs.SmallTable.{popped_1, popped_2, popped_3, po
 use Rattle.worked_executions.proofs.SmallTable.{redirected, rebuilt_1, rebuilt_10, rebuilt_2, rebuilt_3, rebuilt_5}
 use Rattle.worked_executions.proofs.SmallTable.{rebuilt_7, rebuilt_9}
 use Rattle.worked_executions.specs.Witness.{WholeRebuildIsValid}
-use Rattle.machine_places.proofs.Forms.{none_some, not_so, some_is}
+use Rattle.index_machine.proofs.Options.{none_some, not_so, some_is}
 use Rattle.index_machine.specs.Words.{word}
 use Rattle.word_layout.specs.Words.{Header}
 use Rattle.word_layout.specs.declared.headers.HeaderWord.{HeaderWord}
