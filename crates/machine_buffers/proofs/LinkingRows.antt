@@ -54,9 +54,6 @@ module _ (o : Opening) (t : Execution) (b h p : ℕ) (c : Change) (before next :
   abbrev pub k : ℕ
   k = key_of c
 
-  abbrev pub m : Map
-  m = rows h t
-
   abbrev pub T : Execution
   T = event b (LinkRow h p c before next) ∷ t
 
