@@ -24,7 +24,7 @@ use Rattle.machine_buffers.proofs.LinkingRows.{all_listed}
 use Rattle.machine_buffers.proofs.NextRows.{less_or_not}
 use Rattle.machine_buffers.proofs.Walks.{rise, rises}
 use Rattle.machine_places.specs.RowCounts.{all_rows}
-use Rattle.machine_places.proofs.Forms.{none_some}
+use Rattle.index_machine.proofs.Options.{none_some}
 use Rattle.machine_readers.specs.Buffers.{rows}
 use Rattle.machine_readers.proofs.ReadSections.{place_on}
 use Rattle.index_rule.specs.declared.board.Board.{Board}

@@ -15,7 +15,7 @@ use Rattle.index_machine.proofs.Executions.{continues_same, continues_trans}
 use Rattle.index_machine.proofs.Holders.{TakesLock}
 use Rattle.machine_buffers.specs.Walks.{Decides, IsLinkBefore, IsWalkable}
 use Rattle.machine_buffers.proofs.Walks.{decide, rises, stay_before, walkable_while}
-use Rattle.machine_places.proofs.Forms.{some_is}
+use Rattle.index_machine.proofs.Options.{some_is}
 use Rattle.machine_readers.specs.Buffers.{rows}
 use Rattle.index_rule.specs.declared.board.Board.{Board}
 use Rattle.index_rule.specs.declared.hand.Hand.{Hand}

@@ -9,7 +9,6 @@ use Rattle.index_machine.specs.declared.events.Action.{Action}
 use Rattle.index_machine.specs.declared.events.Action.TheVariants.{Enter}
 use Rattle.index_machine.specs.declared.opening.Opening.{Opening}
 use Rattle.index_machine.specs.Execution.{Execution, event, own, Without, Continues}
-use Rattle.index_machine.specs.Execution.{ContinuesWithout}
 use Rattle.index_machine.specs.Sections.{crossings_after, crossings}
 use Rattle.index_machine.specs.ObservedHeads.{NoHead, observed_after, observed_head}
 use Rattle.index_machine.specs.Conditions.{Valid}
@@ -90,12 +89,3 @@ pub continues_trans : (first second third : Execution) → Continues first secon
     Continues second third → Continues first third
 continues_trans first second third f g =
     (g.0 ++ f.0, append_assoc g.0 f.0 first ∙ ap (λ (z : Execution). g.0 ++ z) f.1 ∙ g.1)
-
-pub continues_without_trans : (hand : ℕ) (first second third : Execution) →
-    ContinuesWithout hand first second → ContinuesWithout hand second third →
-    ContinuesWithout hand first third
-continues_without_trans hand first second third f g = (
-  g.0 ++ f.0,
-  append_assoc g.0 f.0 first ∙ ap (λ (z : Execution). g.0 ++ z) f.1 ∙ g.1,
-  without_append hand g.0 f.0 g.2 f.2,
-)

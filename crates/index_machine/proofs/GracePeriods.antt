@@ -1,8 +1,8 @@
 -- Which rows no caller observes.
 --
--- The fact to remember: a row that was in no stack when a grace period began, and was not given
--- back since, is one at its end (ends_observed_heads), and stays one until it is pushed
--- (unobserved_on).
+-- The fact to remember: a caller that has left since observes no row that was in no stack when the
+-- grace period began, and was not given back since (ends_observed_head). A row that nobody observes
+-- stays so until it is pushed (unobserved_on).
 use Rattle.std.proofs.Common.{◌≢◌, ⊎_elim, ℕ, [], ◌∷◌, ◌++◌, sym, ap, ◌∙◌, subst}
 use Rattle.word_layout.specs.Places.{IsRow}
 use Rattle.word_layout.specs.Words.{FreeHead}
@@ -11,7 +11,7 @@ use Rattle.index_machine.specs.declared.events.Action.TheVariants.{PushFree}
 use Rattle.index_machine.specs.declared.opening.Opening.{Opening}
 use Rattle.index_machine.specs.Execution.{Execution, Without}
 use Rattle.index_machine.specs.Words.{limits, word}
-use Rattle.index_machine.specs.Sections.{IsCaller, IsKeeper, HasLeft, IsQuiescent}
+use Rattle.index_machine.specs.Sections.{IsCaller, IsKeeper, HasLeft}
 use Rattle.index_machine.specs.Rows.{Unused, role}
 use Rattle.index_machine.specs.ObservedHeads.{Observes, IsUnobserved}
 use Rattle.index_machine.specs.Conditions.{Allowed, Valid}
@@ -71,15 +71,7 @@ ends_observed_head o caller place newer t valid known taken others left observed
     (heads_hold o t valid).inside caller place known observed)
     newer t valid (shut_over o place newer t valid others (λ row. taken)) caller known left observed
 
--- so once the grace period is over no caller does
-pub ends_observed_heads : (o : Opening) (place : ℕ) (newer t : Execution) → Valid o (newer ++ t) →
-    role o place t ≢ Unused → IsNotPushed place newer → IsQuiescent o t (newer ++ t) →
-    IsUnobserved o place (newer ++ t)
-ends_observed_heads o place newer t valid taken others quiescent caller known observed =
-    ends_observed_head o caller place newer t valid known taken others (quiescent caller known)
-    observed
-
--- and so it stays
+-- and a row in no stack that nobody observes stays so
 pub unobserved_on : (o : Opening) (place : ℕ) (newer t : Execution) → Valid o (newer ++ t) →
     IsNotPushed place newer → role o place t ≢ Unused → IsUnobserved o place t →
     IsUnobserved o place (newer ++ t)

@@ -1,4 +1,5 @@
 pub mod Executions
+pub mod Options
 pub mod OpeningRows
 pub mod Placing
 pub mod Stores

@@ -13,7 +13,7 @@ use Rattle.word_layout.specs.State.{word_of_state}
 use Rattle.word_layout.specs.Addresses.{row_address}
 use Rattle.word_layout.specs.Places.{IsRow, FitsPart, rows_from}
 use Rattle.word_layout.specs.Words.{Word, FreeHead, PlaceWord}
-use Rattle.word_layout.proofs.RowPlaces.{next_row-inner, next_row-last, next_row-fits, row-nonzero}
+use Rattle.word_layout.proofs.RowPlaces.{next_row-inner, next_row-last, next_row-fits}
 use Rattle.index_machine.specs.declared.events.Action.{Action}
 use Rattle.index_machine.specs.declared.events.Action.TheVariants.{PopFree, StorePrivate, PushFree}
 use Rattle.index_machine.specs.declared.events.Action.TheVariants.{Lock, StoreValue, Unlock}
@@ -153,18 +153,6 @@ pub top_free : (o : Opening) (t : Execution) → Valid o t → word o t FreeHead
 top_free o t valid some =
     (placed o t valid).free (word o t FreeHead)
     (subst (In (word o t FreeHead)) (sym (top o t valid some).1) (inl refl))
-
--- a head of 0 names none, and then there is none
-pub empty_stack : (o : Opening) (t : Execution) → Valid o t → word o t FreeHead ≡ 0 →
-    free_stack o t ≡ []
-empty_stack o t valid none = by_rows (free_stack o t) (placed o t valid).free (linked o t valid)
-  where
-    by_rows : (rows : List ℕ) →
-        ((place : ℕ) → In place rows → (role o place t ≡ Unused) × IsRow (limits o) place) →
-        Chain (word o t) (word o t FreeHead) rows → rows ≡ []
-    by_rows [] free chain = refl
-    by_rows (place ∷ rest) free chain =
-        absurd (row-nonzero (limits o) place (free place (inl refl)).1 (sym chain.0 ∙ none))
 
 -- ---- links name rows ----
 

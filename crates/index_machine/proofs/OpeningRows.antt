@@ -19,6 +19,7 @@ use Rattle.index_machine.specs.Rows.{Unused, HeldBy, InArray, InBuffer, role_key
 use Rattle.index_machine.specs.Rows.{opening_role}
 use Rattle.index_machine.specs.RebuildConditions.{IsArrayPlaceOf}
 use Rattle.index_machine.proofs.Executions.{choice-same, choice-other}
+use Rattle.index_machine.proofs.Options.{none_some}
 
 -- ---- rows that stand from a place of the array on ----
 
@@ -30,9 +31,6 @@ no_row e = cc
 
 some_place : {p q : ℕ} → Some p ≡ Some q → p ≡ q
 some_place e = cc
-
-no_place : {X : Type 0} {p : ℕ} → None ≡ Some p → X
-no_place e = cc
 
 -- the place is one of so many of the array, from place i on
 abbrev pub IsFrom : Limits → ℕ → ℕ → ℕ → Type 0
@@ -86,7 +84,7 @@ place_of_row l i (q ∷ rows) place r rising e =
 
 pub place_from-place : (l : Limits) (i : ℕ) (rows : Map) (k place : ℕ) →
     place_from l i rows k ≡ Some place → IsFrom l i (length rows) place
-place_from-place l i [] k place e = no_place e
+place_from-place l i [] k place e = none_some e
 place_from-place l i (q ∷ rows) k place e =
     let at : ℕ = array_address l 0 i in
     let further : Option ℕ = place_from l (i + 1) rows k in
@@ -103,7 +101,7 @@ pub row_of_place : (l : Limits) (i : ℕ) (rows : Map) (k place : ℕ) →
     place_from l i rows k ≡ Some place →
     (x : ℕ) × (row_from l i rows place ≡ Some (k, x)) × (look rows k ≡ Some x)
 unfolding look
-row_of_place l i [] k place e = no_place e
+row_of_place l i [] k place e = none_some e
 row_of_place l i (q ∷ rows) k place e =
     let at : ℕ = array_address l 0 i in
     let later : Option (ℕ × ℕ) = row_from l (i + 1) rows place in
@@ -136,7 +134,7 @@ key_without_place l i (q ∷ rows) k e =
     let at : ℕ = array_address l 0 i in
     let further : Option ℕ = place_from l (i + 1) rows k in
     dite (ℕ_discrete q.0 k)
-    (λ (here : q.0 ≡ k). no_place (sym e ∙ choice-same q.0 k (Some at) further here))
+    (λ (here : q.0 ≡ k). none_some (sym e ∙ choice-same q.0 k (Some at) further here))
     (λ (apart : q.0 ≢ k).
     choice-other q.0 k (Some q.1) (look rows k) apart
     ∙ key_without_place l (i + 1) rows k (sym (choice-other q.0 k (Some at) further apart) ∙ e))
@@ -190,7 +188,7 @@ pub opening_role-keyed : (o : Opening) (place k : ℕ) → role_key (opening_rol
 opening_role-keyed o place k e = go (opening_row o place) e
   where
     go : (r : Option (ℕ × ℕ)) → role_key (role_of_row r) ≡ Some k → (x : ℕ) × (r ≡ Some (k, x))
-    go None e = no_place e
+    go None e = none_some e
     go (Some r) e = (r.1, ap (λ (j : ℕ). Some (j, r.1)) (some_place e))
 
 -- it is in the array of group 0

@@ -597,30 +597,3 @@ pub holds_none_kept : (o : Opening) (by : ℕ) (action : Action) (t : Execution)
     (hand : ℕ) → HoldsNone o hand t → HoldsNone o hand (event by action ∷ t)
 holds_none_kept o by action t keeps hand none place mine =
     none place (sym (role_kept o by action t keeps place) ∙ mine)
-
--- the popped row is the hand's own
-pub holds_popped : (o : Opening) (hand place next : ℕ) (t : Execution) →
-    Holds o hand place (event hand (PopFree place next) ∷ t)
-holds_popped o hand place next t = role_popped o hand place next t place refl
-
--- and the only one, if it had none
-pub holds_popped_only : (o : Opening) (hand popped next : ℕ) (t : Execution) → HoldsNone o hand t →
-    (place : ℕ) → Holds o hand place (event hand (PopFree popped next) ∷ t) → popped ≡ place
-holds_popped_only o hand popped next t none place mine =
-    ⊎_elim
-    (λ (taken : (popped ≡ place) × (hand ≡ hand)). taken.0)
-    (λ (before : Holds o hand place t). absurd (none place before))
-    (held_before_pop o hand popped next t hand place mine)
-
--- the pushed row is nobody's
-pub unused_pushed : (o : Opening) (hand place head : ℕ) (t : Execution) →
-    role o place (event hand (PushFree place head) ∷ t) ≡ Unused
-unused_pushed o hand place head t = role_pushed o hand place head t place refl
-
--- so the hand has none, if that was its only one
-pub holds_none_pushed : (o : Opening) (hand pushed head : ℕ) (t : Execution) →
-    ((place : ℕ) → Holds o hand place t → pushed ≡ place) →
-    HoldsNone o hand (event hand (PushFree pushed head) ∷ t)
-holds_none_pushed o hand pushed head t only place mine =
-    let same = only place (held_before_push o hand pushed head t hand place mine) in
-    unused-held (sym (role_pushed o hand pushed head t place same) ∙ mine)

@@ -22,13 +22,11 @@ use Rattle.index_machine.specs.OpeningRows.{opening_row, value_word, key_word, r
 use Rattle.index_machine.specs.Openings.{form_of_row}
 use Rattle.index_machine.specs.Places.{first_version, form}
 use Rattle.index_machine.proofs.Executions.{choice-same, choice-other}
+use Rattle.index_machine.proofs.Options.{none_some}
 use Rattle.index_machine.proofs.Stores.{store_apart}
 use Rattle.index_machine.proofs.Counting.{counted}
 use Rattle.index_machine.proofs.Linking.{linked}
 use Rattle.index_machine.proofs.OpeningRows.{opening_role-keyed}
-
-pub none-some : {X : Type 0} {k : ℕ} → None ≡ Some k → X
-none-some e = cc
 
 -- the action is on an epoch word, on the free stack or on a row in a hand
 abbrev pub IsOnRowsOrEpochs : Action → Type 0
@@ -77,7 +75,7 @@ opening_represented o =
 pub key_before : (q p : ℕ) (u r : Role) (k : ℕ) → role_key u ≡ None →
     role_key (cond (q == p) u r) ≡ Some k → (q ≢ p) × (role_key r ≡ Some k)
 key_before q p u r k none e = dite (ℕ_discrete q p)
-    (λ (z : q ≡ p). none-some (sym none ∙ (ap role_key (sym (set_at z)) ∙ e)))
+    (λ (z : q ≡ p). none_some (sym none ∙ (ap role_key (sym (set_at z)) ∙ e)))
     (λ (n : q ≢ p). (n, ap role_key (sym (kept_at n)) ∙ e))
   where
     set_at : q ≡ p → cond (q == p) u r ≡ u
@@ -90,7 +88,7 @@ key_before q p u r k none e = dite (ℕ_discrete q p)
 held_apart : (o : Opening) (t : Execution) (by q place k : ℕ) → Holds o by q t →
     role_key (role o place t) ≡ Some k → q ≢ place
 held_apart o t by q place k mine keyed e =
-    none-some (sym (ap role_key mine) ∙ ap (λ (p : ℕ). role_key (role o p t)) e ∙ keyed)
+    none_some (sym (ap role_key mine) ∙ ap (λ (p : ℕ). role_key (role o p t)) e ∙ keyed)
 
 pub rows_represent : RowsAndEpochsRepresent
 rows_represent (LoadEpoch caller found) is o t by valid old =

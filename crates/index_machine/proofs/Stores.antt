@@ -1,6 +1,6 @@
 -- What a store leaves: the words of a place that is in no group are changed by the hand that holds
 -- it alone.
-use Rattle.std.proofs.Common.{◌≡◌, ◌≢◌, ⊎_elim, ℕ, zero, suc, Some, None, cond}
+use Rattle.std.proofs.Common.{◌≡◌, ◌≢◌, ⊎_elim, ℕ, zero, suc, None, cond}
 use Rattle.std.proofs.Common.{◌∷◌, refl, sym, ap, ◌∙◌, subst, arith, ne_eqb}
 use Rattle.word_layout.specs.declared.places.Part.{Part}
 use Rattle.word_layout.specs.Places.{IsRow}
@@ -19,10 +19,8 @@ use Rattle.index_machine.specs.Places.{IsInGroup}
 use Rattle.index_machine.specs.RecordConditions.{HasKey}
 use Rattle.index_machine.specs.RebuildConditions.{IsArrayPlaceOf}
 use Rattle.index_machine.specs.Conditions.{Allowed}
+use Rattle.index_machine.proofs.Options.{none_some}
 use Rattle.index_machine.proofs.OpeningRows.{array_not_row}
-
-some-none : {X : Type 0} {k : ℕ} → None ≡ Some k → X
-some-none e = cc
 
 -- a store at a place leaves the words of another
 pub store_apart : (q place value n : ℕ) (at part : Part) → q ≢ place →
@@ -33,7 +31,7 @@ store_apart q place value n at part differ = rw (ne_eqb q place differ) refl
 keyed_apart : (o : Opening) (t : Execution) (q place : ℕ) → HasKey o q t →
     role_key (role o place t) ≡ None → q ≢ place
 keyed_apart o t q place keyed none e =
-    some-none (sym none ∙ ap (λ (p : ℕ). role_key (role o p t)) (sym e) ∙ keyed.1)
+    none_some (sym none ∙ ap (λ (p : ℕ). role_key (role o p t)) (sym e) ∙ keyed.1)
 
 in_group_keyed : (o : Opening) (t : Execution) (g k q : ℕ) → IsInGroup o t g k q → HasKey o q t
 in_group_keyed o t g k q s =

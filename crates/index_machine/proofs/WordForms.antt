@@ -23,8 +23,7 @@ use Rattle.index_machine.specs.Groups.{name_used_again}
 use Rattle.index_machine.specs.RecordConditions.{IsChangeTo}
 use Rattle.index_machine.specs.Represents.{is_opened_to}
 use Rattle.index_machine.proofs.Executions.{choice-same, choice-other}
-use Rattle.index_machine.proofs.Representing.{none-some}
-use Rattle.index_machine.proofs.Representing.{}
+use Rattle.index_machine.proofs.Options.{none_some}
 
 -- ---- choices ----
 
@@ -121,16 +120,6 @@ value_set q p y n f g new old =
     no_test : (q p : ℕ) → q ≢ p → (q == p) ≡ false
     no_test q p m = ne_eqb q p m
 
--- a state word at one place
-pub state_set : (q p y n : ℕ) (f g : Form) → (q ≡ p → y ≡ state_word f) → n ≡ state_word g →
-    cond ((q == p) && true) y n ≡ state_word (cond (q == p) f g)
-state_set q p y n f g new old =
-    dite (ℕ_discrete q p)
-    (λ (z : q ≡ p). subst (λ (b : Bool). cond (b && true) y n ≡ state_word (cond b f g))
-    (sym (eq-eqb q p z)) (new z))
-    (λ (m : q ≢ p). subst (λ (b : Bool). cond (b && true) y n ≡ state_word (cond b f g))
-    (sym (ne_eqb q p m)) old)
-
 pub state_if : (b : Bool) (n : ℕ) (f g : Form) → n ≡ state_word f → n ≡ state_word g →
     n ≡ state_word (cond b f g)
 state_if true n f g h k = h
@@ -156,7 +145,7 @@ key_emptied g (InBuffer h j) k e = e
 key_emptied g (InArray h j) k e = go (h == g) e
   where
     go : (b : Bool) → role_key (cond b Unused (InArray h j)) ≡ Some k → Some j ≡ Some k
-    go true e = none-some e
+    go true e = none_some e
     go false e = e
 
 -- a choice at one place
@@ -207,7 +196,7 @@ key_pick q p u r k j is e =
 pub unused_key : (o : Opening) (t : Execution) (q place k : ℕ) → role o q t ≡ Unused →
     role_key (role o place t) ≡ Some k → q ≢ place
 unused_key o t q place k free keyed e =
-    none-some (sym (ap role_key free) ∙ ap (λ (p : ℕ). role_key (role o p t)) e ∙ keyed)
+    none_some (sym (ap role_key free) ∙ ap (λ (p : ℕ). role_key (role o p t)) e ∙ keyed)
 
 pub stale_set : (b st : Bool) (value n m : ℕ) → (st ≡ false → n ≡ m) → cond b true st ≡ false →
     cond (b && true) value n ≡ m

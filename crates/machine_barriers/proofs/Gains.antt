@@ -19,7 +19,7 @@ use Rattle.index_machine.specs.declared.events.Action.TheVariants.{LoadSlotGroup
 use Rattle.index_machine.specs.declared.opening.Opening.{Opening}
 use Rattle.machine_barriers.specs.Gains.{Gain, LoadsGroup, LoadsPlace, LoadsRoot, SeesOpen}
 use Rattle.machine_barriers.specs.Gains.{SeesOpened}
-use Rattle.machine_places.proofs.Forms.{none_some, not_so, some_is}
+use Rattle.index_machine.proofs.Options.{none_some, not_so, some_is}
 use Rattle.word_layout.specs.Phase.{word_of_phase}
 use Rattle.word_layout.specs.State.{word_of_state}
 use Rattle.word_layout.specs.declared.phase.Phase.TheVariants.{Open, Opened}

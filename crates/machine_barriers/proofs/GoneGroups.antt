@@ -33,7 +33,7 @@ use Rattle.machine_barriers.specs.GoneGroups.{GoneGroupsStay, IsLeftAlone}
 use Rattle.machine_barriers.specs.GoneGroups.{NeverBegunGroupsAreLeftAlone}
 use Rattle.machine_barriers.specs.GoneGroups.{ReplacedGroupsAreLeftAlone}
 use Rattle.machine_barriers.specs.GoneGroups.{UnopenedGroupsAreLeftAlone}
-use Rattle.machine_places.proofs.Forms.{none_some, not_so, some_is}
+use Rattle.index_machine.proofs.Options.{none_some, not_so, some_is}
 use Rattle.word_layout.specs.Phase.{word_of_phase}
 use Rattle.word_layout.specs.declared.phase.Phase.{Phase}
 use Rattle.word_layout.specs.declared.phase.Phase.TheVariants.{Frozen, Open, Opened}

@@ -24,8 +24,3 @@ module _ (o : Opening) (Relies : ℕ → Execution → Type 0) (Shut : Execution
   relied_on_by_none inside n t valid shut passed c lt h = let s = had c lt n t valid shut h in
       let i = inside t (valid_before o n t valid) c lt s.0 in let more = passed c lt i in let same =
       s.1 in absurd (omega arith)
-
-  -- and it stays so
-  pub stays_relied_on_by_none : (n t : Execution) → Valid o (n ++ t) → IsShutOver Shut n t →
-      ((c : ℕ) → IsCaller o c → Relies c t → ⊥) → (c : ℕ) → IsCaller o c → Relies c (n ++ t) → ⊥
-  stays_relied_on_by_none n t valid shut none c lt h = none c lt (had c lt n t valid shut h).0

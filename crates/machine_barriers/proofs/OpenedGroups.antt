@@ -30,7 +30,7 @@ use Rattle.machine_barriers.proofs.Gains.{stands_in_gain, test_is}
 use Rattle.machine_barriers.proofs.Reaches.{loads_group, loads_phase, loads_root, may_as}
 use Rattle.machine_barriers.specs.Barriers.{OpenedGroupsHold}
 use Rattle.machine_barriers.specs.Gains.{LoadsGroup, LoadsRoot, SeesOpen, SeesOpened}
-use Rattle.machine_places.proofs.Forms.{named_before, some_is, still_named}
+use Rattle.index_machine.proofs.Options.{named_before, some_is, still_named}
 use Rattle.word_layout.specs.Phase.{word_of_phase}
 use Rattle.word_layout.specs.declared.phase.Phase.{Phase}
 use Rattle.word_layout.specs.declared.phase.Phase.TheVariants.{Frozen, Open, Opened}

@@ -24,7 +24,7 @@ use Rattle.machine_barriers.proofs.Gains.{inside, reached_gain, root_seen_gain, 
 use Rattle.machine_barriers.proofs.Gains.{saw_opened_gain, stands_in_gain}
 use Rattle.machine_barriers.specs.Barriers.{CallersOutsideRelyOnNothing}
 use Rattle.machine_barriers.specs.Gains.{LoadsGroup, LoadsPlace, LoadsRoot, SeesOpen, SeesOpened}
-use Rattle.machine_places.proofs.Forms.{none_some, not_so}
+use Rattle.index_machine.proofs.Options.{none_some, not_so}
 use Rattle.word_layout.specs.Phase.{word_of_phase}
 use Rattle.word_layout.specs.State.{word_of_state}
 use Rattle.word_layout.specs.declared.phase.Phase.{Phase}

@@ -17,7 +17,7 @@ use Rattle.machine_buffers.specs.Lanes.{IsBefore, IsInRange, IsLinkedLane, LaneD
 use Rattle.machine_buffers.specs.Lanes.{LaneLinksDecide, LaneLinksLeadIntoTheLane, LaneLinksRise}
 use Rattle.machine_buffers.specs.Lanes.{LeftLaneLinksDoNotComeBack, LinkedRowsTakeTheirPlace}
 use Rattle.machine_buffers.specs.Lanes.{OtherLanesStayLinked, lane_link, link_from}
-use Rattle.machine_places.proofs.Forms.{some_is}
+use Rattle.index_machine.proofs.Options.{some_is}
 use Rattle.machine_readers.proofs.ReadSections.{place_on, stands_in_on}
 use Rattle.machine_readers.specs.Buffers.{rows}
 use Rattle.map_model.specs.Map.{IsRising, Map, look}

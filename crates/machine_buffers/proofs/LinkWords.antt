@@ -19,7 +19,7 @@ use Rattle.index_machine.specs.declared.events.Action.TheVariants.{StoreRedirect
 use Rattle.index_machine.specs.declared.events.Action.TheVariants.{Unlock}
 use Rattle.index_machine.specs.declared.events.InstallWord.TheVariants.{FirstSlot, NextOf}
 use Rattle.index_machine.specs.declared.opening.Opening.{Opening}
-use Rattle.machine_places.proofs.Forms.{none_some}
+use Rattle.index_machine.proofs.Options.{none_some}
 use Rattle.map_model.specs.declared.entries.Change.{Change}
 use Rattle.word_layout.specs.Headers.{same_header_word}
 use Rattle.word_layout.specs.Words.{Header, PlaceWord}

@@ -13,7 +13,7 @@ use Rattle.machine_buffers.proofs.NextRows.{less_or_not, row_or_none}
 use Rattle.machine_buffers.specs.Lanes.{IsBefore, IsInRange, IsLinkedLane, Lane}
 use Rattle.machine_buffers.specs.Lanes.{KeepsLane, LinksInto, before_end, lane_link}
 use Rattle.machine_buffers.specs.Lanes.{place_of_row, link_from}
-use Rattle.machine_places.proofs.Forms.{some_is}
+use Rattle.index_machine.proofs.Options.{some_is}
 use Rattle.machine_readers.specs.Buffers.{RowsAreListed, rows}
 use Rattle.map_model.proofs.Histories.{look-put-else, look-put-here}
 use Rattle.map_model.specs.Map.{IsRising, Map, first_from, look, put}

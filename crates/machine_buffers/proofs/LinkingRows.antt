@@ -18,7 +18,7 @@ use Rattle.machine_buffers.proofs.LinkedLanes.{linked_on}
 use Rattle.machine_buffers.specs.Groups.{IsOutOfUse}
 use Rattle.machine_buffers.specs.Lanes.{IsLinkedLane, LinksInto, buffer_lane, lane_link}
 use Rattle.machine_buffers.specs.Walks.{IsWalkable, LinksLeadOn}
-use Rattle.machine_places.proofs.Forms.{some_is}
+use Rattle.index_machine.proofs.Options.{some_is}
 use Rattle.machine_readers.proofs.Buffers.{listed}
 use Rattle.machine_readers.specs.Buffers.{RowsAreListed, rows}
 use Rattle.map_model.proofs.Histories.{look-put-else, look-put-here}
@@ -53,9 +53,6 @@ module _ (o : Opening) (t : Execution) (b h p : ℕ) (c : Change) (before next :
     (old : BuffersHold o t) where
   abbrev pub k : ℕ
   k = key_of c
-
-  abbrev pub m : Map
-  m = rows h t
 
   abbrev pub T : Execution
   T = event b (LinkRow h p c before next) ∷ t

@@ -5,7 +5,7 @@ use Rattle.std.proofs.lemmas.Bool.Decides.{nat_tests}
 use mathlib.Core.Logic.{dite}
 use native.Mathlib.Decide.{ℕ_discrete}
 use Rattle.machine_buffers.specs.Lanes.{IsBefore, before_end, below, place_of_row, link_from}
-use Rattle.machine_places.proofs.Forms.{none_some, some_is}
+use Rattle.index_machine.proofs.Options.{none_some, some_is}
 use Rattle.map_model.proofs.Pairs.{AllAbove}
 use Rattle.map_model.specs.Map.{IsRising, Map, first_from, look, put}
 
@@ -146,10 +146,6 @@ abbrev pub IsFirstBefore : Map → ℕ → Option ℕ → ℕ → Type 0
 IsFirstBefore m low end place =
     (i : ℕ) × (look m i ≡ Some place) × (low ≤ i) × IsBefore i end
     × ((j q : ℕ) → look m j ≡ Some q → low ≤ j → i ≤ j)
-
-not_after : (k i : ℕ) (end : Option ℕ) → k ≤ i → IsBefore i end → IsBefore k end
-not_after k i None le is = tt
-not_after k i (Some end) le is = let lt : i < end = is in omega arith
 
 -- a link leads to the first row of the lane from a key on, unless none is left
 pub row_or_none : (m : Map) (low : ℕ) (end : Option ℕ) → IsRising m →

@@ -21,7 +21,7 @@ use Rattle.machine_barriers.proofs.OpenedGroups.{opened_back, opened_groups_hold
 use Rattle.machine_buffers.specs.Groups.{Begins, FrozenAreChained, FrozenGroupsAnswer, IsOutOfUse}
 use Rattle.machine_buffers.specs.Groups.{NewGroupsAreOpen, NewAreOpenOrChained, OpenedAreNotNew}
 use Rattle.machine_buffers.specs.Groups.{OpenedGroupsAreNotNew}
-use Rattle.machine_places.proofs.Forms.{named_before, none_some, some_is}
+use Rattle.index_machine.proofs.Options.{named_before, none_some, some_is}
 use Rattle.word_layout.specs.declared.phase.Phase.{Phase}
 use Rattle.word_layout.specs.declared.phase.Phase.TheVariants.{Frozen, Open, Opened}
 

@@ -22,7 +22,7 @@ use Rattle.machine_barriers.proofs.Gains.{test_is}
 use Rattle.machine_buffers.proofs.OutOfUse.{begins_or_not, out_on, replaced_out}
 use Rattle.machine_buffers.proofs.Walkable.{IsEmpty}
 use Rattle.machine_buffers.specs.Groups.{Begins, IsOutOfUse}
-use Rattle.machine_places.proofs.Forms.{not_so}
+use Rattle.index_machine.proofs.Options.{not_so}
 use Rattle.machine_readers.proofs.ReadSections.{stands_in_on}
 use Rattle.word_layout.specs.declared.headers.HeaderWord.{HeaderWord}
 use Rattle.word_layout.specs.declared.headers.HeaderWord.TheVariants as header

@@ -24,7 +24,7 @@ use Rattle.machine_buffers.proofs.OutOfUse.{out_on, replaced_out}
 use Rattle.machine_buffers.specs.Groups.{Begins, IsKeyOf, IsOutOfUse}
 use Rattle.machine_buffers.specs.Walks.{RowsHaveKeysOfTheirGroup, RowsOfTheChainAreInRange}
 use Rattle.machine_readers.proofs.InstalledRedirects.{remembered_back}
-use Rattle.machine_places.proofs.Forms.{none_some, some_is, still_named}
+use Rattle.index_machine.proofs.Options.{none_some, some_is, still_named}
 use Rattle.machine_readers.proofs.AwaitedGroups.{belongs_on}
 use Rattle.machine_readers.proofs.Roles.{IsLinkOf, row_back}
 use Rattle.machine_readers.proofs.StandingCallers.{groups_before_are_opened}

@@ -15,7 +15,7 @@ use Rattle.machine_keeper.specs.Keeper.{BarrierFreesSide, ClosedBuffersGainNoRow
 use Rattle.machine_keeper.specs.Keeper.{FirstBarrierCloses, HeldRowsAreUnreached}
 use Rattle.machine_keeper.specs.Keeper.{InstallTakesOldGroupsOut, LivePlacesAreMerged, LocksStay}
 use Rattle.machine_keeper.specs.Keeper.{RedirectsArePending, SecondBarrierFrees, ThirdBarrierFrees}
-use Rattle.machine_places.proofs.Forms.{none_some}
+use Rattle.index_machine.proofs.Options.{none_some}
 use Rattle.machine_places.proofs.FromOpening.{agreement, live_places}
 use Rattle.machine_readers.proofs.FromOpening.{reached_keys}
 

@@ -1,6 +1,6 @@
 -- How the keeper meets its conditions.
 use Rattle.std.proofs.Common.{◌≡◌, ◌≢◌, ℕ, ◌⊎◌, inl, inr, ⊎_elim, Option, Some, None, Bool, true}
-use Rattle.std.proofs.Common.{false, [], ◌∷◌, cond, refl, sym, ap, ◌∙◌, subst}
+use Rattle.std.proofs.Common.{false, [], ◌∷◌, cond, refl, sym, ap, ◌∙◌}
 use Rattle.std.specs.Prelude.{◌==◌}
 use mathlib.Core.Logic.{dite}
 use native.Mathlib.Decide.{ℕ_discrete}
@@ -16,7 +16,7 @@ use Rattle.index_machine.specs.Openings.{within}
 use Rattle.index_machine.specs.Permissions.{IsBufferFor, IsGone, MayInsertInto}
 use Rattle.index_machine.specs.Places.{IsInGroup, first_version, form}
 use Rattle.index_machine.specs.Reaching.{SeesSlot}
-use Rattle.index_machine.specs.Rows.{InArray, InBuffer, role, role_key}
+use Rattle.index_machine.specs.Rows.{InArray, InBuffer, role}
 use Rattle.index_machine.specs.Sections.{IsCaller}
 use Rattle.index_machine.specs.declared.events.Action.{Action}
 use Rattle.index_machine.specs.declared.events.Action.TheVariants.{Install, LinkRow}
@@ -24,17 +24,16 @@ use Rattle.index_machine.specs.declared.events.Action.TheVariants.{StoreDirect}
 use Rattle.index_machine.specs.declared.events.Action.TheVariants.{StoreRedirect}
 use Rattle.index_machine.specs.declared.events.InstallWord.{InstallWord}
 use Rattle.index_machine.specs.declared.opening.Opening.{Opening}
-use Rattle.machine_barriers.proofs.OpenedGroups.{opened_groups_hold}
 use Rattle.machine_barriers.proofs.Reaches.{may_as}
 use Rattle.machine_barriers.specs.Barriers.{IsShutForOldGroups, ReliesOnOld}
 use Rattle.machine_keeper.specs.Marks.{pending_redirect}
-use Rattle.machine_places.proofs.Forms.{none_some, not_so, some_is}
+use Rattle.index_machine.proofs.Options.{none_some, not_so, some_is}
 use Rattle.machine_places.proofs.LivePlaces.{live_place-lives}
 use Rattle.machine_places.specs.Agreement.{LivePlacesStand, MapAgrees}
 pub use Rattle.machine_readers.proofs.LockSteps.{locked_step}
 use Rattle.machine_readers.proofs.Redirects.{redirect_back}
 use Rattle.machine_readers.proofs.Roles.{IsLinkOf, row_back}
-use Rattle.machine_readers.proofs.Tombstones.{removed-has_no_value, removed_step}
+use Rattle.machine_readers.proofs.Tombstones.{removed-has_no_value}
 use Rattle.word_layout.specs.declared.phase.Phase.TheVariants.{Opened}
 
 direct_not : (n : ℕ) (r : Bool) (q v p y : ℕ) → made_direct n r (Redirect q v) ≡ Redirect p y → ⊥
@@ -78,22 +77,6 @@ pub rows_final : (o : Opening) (t : Execution) (b : ℕ) (d : Action) (g k q : �
 rows_final o t b d g k q may none e = ⊎_elim (λ (z : role o q t ≡ InBuffer g k). z)
     (λ (z : IsLinkOf g q k d). let m = may_as o t b d (LinkRow g q z.0 z.1 z.2) z.3 may in
     absurd (none b m.caller m.permission)) (row_back o t b d q g k e)
-
-pub removed_final : (o : Opening) (t : Execution) (b : ℕ) (d : Action) (g k q : ℕ) →
-    Allowed o t b d → ((c : ℕ) → IsCaller o c → MayInsertInto c g t → ⊥) → IsInGroup o t g k q →
-    is_removed (form o q t) ≡ true → is_removed (form o q (event b d ∷ t)) ≡ true
-removed_final o t b d g k q may none s e = removed_step o t b d q k may
-    (⊎_elim (λ (z : role o q t ≡ InArray g k). ap role_key z)
-    (λ (z : role o q t ≡ InBuffer g k). ap role_key z) s)
-    (λ h j c is z l. ⊎_elim (λ (w : role o q t ≡ InArray g k).
-    let bad : InArray g k ≡ InBuffer h j = sym w ∙ z in cc)
-    (λ (w : role o q t ≡ InBuffer g k). let two : InBuffer g k ≡ InBuffer h j = sym w ∙ z in
-    let same : g ≡ h = cc in none c is (subst (λ (y : ℕ). MayInsertInto c y t) (sym same) l)) s) e
-
--- nobody may insert into an opened group
-pub opened_closed : (o : Opening) (t : Execution) → Valid o t → (g f : ℕ) → phase g t ≡ Opened f →
-    (c : ℕ) → IsCaller o c → MayInsertInto c g t → ⊥
-opened_closed o t valid g f e c is l = (opened_groups_hold o t valid).closed c g is l f e
 
 -- the live place of a key has its redirect, if each old place of the key is removed or has its
 -- redirect, and the old array has no redirect

@@ -1,10 +1,3 @@
 pub mod Keeper
 pub mod Marks
 pub mod FromOpening
-pub mod Ranges
-pub mod SmallForms
-pub mod SmallTable
-pub mod OpenedWitness
-pub mod Witness
-pub mod FourGroups
-pub mod NameUsedAgain

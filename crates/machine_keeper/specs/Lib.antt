@@ -1,4 +1,2 @@
 pub mod Marks
 pub mod Keeper
-pub mod Witness
-pub mod NameUsedAgain

@@ -9,8 +9,6 @@ ghost use Rattle.machine_keeper.specs.Keeper.{LocksStay};
 ghost use Rattle.machine_keeper.specs.Keeper.{RedirectsArePending};
 ghost use Rattle.machine_keeper.specs.Keeper.{SecondBarrierFrees};
 ghost use Rattle.machine_keeper.specs.Keeper.{ThirdBarrierFrees};
-ghost use Rattle.machine_keeper.specs.NameUsedAgain.{NamesAreUsedAgain};
-ghost use Rattle.machine_keeper.specs.Witness.{WholeRebuildIsValid};
 
 /// A group that was frozen before the mark of the first barrier is closed to inserts at its end.
 pub fn first_barrier_closes()
@@ -62,16 +60,4 @@ pub fn install_takes_old_groups_out()
 /// A row that is given back is one that no caller relies on.
 pub fn held_rows_are_unreached()
     ensures { HeldRowsAreUnreached }
-{}
-
-/// A whole rebuild, with callers' steps in between, is a valid execution, to its end with a row and
-/// a group row used again.
-pub fn whole_rebuild_is_valid()
-    ensures { WholeRebuildIsValid }
-{}
-
-/// A rebuild may be named by a free group row while a group that the old rebuild of this name made
-/// is still in the chain, and this group is opened to it.
-pub fn names_are_used_again()
-    ensures { NamesAreUsedAgain }
 {}

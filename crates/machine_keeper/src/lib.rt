@@ -1,4 +1,4 @@
-//! What the keeper may conclude, and that a whole rebuild is a valid execution.
+//! What the keeper may conclude.
 //!
 //! Between a mark and its check the keeper changes no structure, so what a barrier ends does not
 //! begin again.
@@ -8,6 +8,6 @@ mod laws;
 
 pub use laws::{
     barrier_frees_side, closed_buffers_gain_no_row, first_barrier_closes, held_rows_are_unreached,
-    install_takes_old_groups_out, live_places_are_merged, locks_stay, names_are_used_again,
-    redirects_are_pending, second_barrier_frees, third_barrier_frees, whole_rebuild_is_valid,
+    install_takes_old_groups_out, live_places_are_merged, locks_stay, redirects_are_pending,
+    second_barrier_frees, third_barrier_frees,
 };

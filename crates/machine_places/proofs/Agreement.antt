@@ -26,7 +26,7 @@ use Rattle.index_machine.specs.declared.events.Action.TheVariants.{StoreRedirect
 use Rattle.index_machine.specs.declared.events.Action.TheVariants.{Unlock}
 use Rattle.index_machine.specs.declared.opening.Opening.{Opening}
 use Rattle.machine_places.proofs.Forms.{live_value-with_lock, live_value-with_value, live_value_if}
-use Rattle.machine_places.proofs.Forms.{none_some, not_so, some_is}
+use Rattle.index_machine.proofs.Options.{none_some, not_so, some_is}
 use Rattle.machine_places.proofs.LiveValues.{only_live}
 use Rattle.machine_places.specs.Agreement.{HasLiveValue, MapAgrees, OnlyLive}
 use Rattle.map_model.proofs.Histories.{look-else, look-here}

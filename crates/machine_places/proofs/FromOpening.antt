@@ -19,7 +19,7 @@ use Rattle.index_machine.specs.declared.opening.Opening.{Opening}
 use Rattle.index_machine.proofs.OpeningRows.{key_without_place, opening_role-keyed}
 use Rattle.index_machine.proofs.OpeningRows.{opening_row-key, opening_row-live, row_of_place}
 use Rattle.machine_places.proofs.Agreement.{map_agrees}
-use Rattle.machine_places.proofs.Forms.{none_some, not_so, some_is}
+use Rattle.index_machine.proofs.Options.{none_some, not_so, some_is}
 use Rattle.machine_places.proofs.LivePlaces.{live_places_stand}
 use Rattle.machine_places.proofs.LiveValues.{only_live}
 use Rattle.machine_places.specs.Agreement.{AreByCallers, AtMostOneLivePlace, HasLiveValue}

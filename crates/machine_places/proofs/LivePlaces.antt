@@ -31,7 +31,7 @@ use Rattle.index_machine.specs.declared.events.Action.TheVariants.{Unlock}
 use Rattle.index_machine.specs.declared.events.InstallWord.{InstallWord}
 use Rattle.index_machine.specs.declared.opening.Opening.{Opening}
 use Rattle.machine_places.proofs.Agreement.{emptied_keeps, map_agrees}
-use Rattle.machine_places.proofs.Forms.{none_some, some_is, still_named}
+use Rattle.index_machine.proofs.Options.{none_some, some_is, still_named}
 use Rattle.machine_places.proofs.LiveValues.{only_live}
 use Rattle.machine_places.specs.Agreement.{HasLiveValue, LivePlacesStand, MapAgrees, OnlyLive}
 use Rattle.map_model.specs.Map.{key_of}
@@ -109,10 +109,6 @@ redirect_if : (b : Bool) (p y : ℕ) (f g : Form) → g ≡ Redirect p y →
     (z : ℕ) × (cond b f g ≡ Redirect p z)
 redirect_if true p y f g e h = h
 redirect_if false p y f g e h = (y, e)
-
-redirect_not : {X : Type 0} {p y : ℕ} (f : Form) (x : ℕ) → live_value f ≡ Some x →
-    f ≡ Redirect p y → X
-redirect_not f x l e = none_some (sym (ap live_value e) ∙ l)
 
 -- phases: no opened one is map_after
 opened_if : (g h : ℕ) (x y z : Phase) (f : ℕ) → (g ≡ h → y ≡ Opened f → ⊥) → y ≡ Opened f →

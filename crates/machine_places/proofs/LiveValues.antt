@@ -13,7 +13,7 @@ use Rattle.index_machine.specs.Forms.{with_value, without_lock}
 use Rattle.index_machine.specs.LivePlaces.{live_place, live_place_after}
 use Rattle.index_machine.specs.Places.{first_version, form}
 use Rattle.index_machine.specs.RebuildConditions.{MayDirect}
-use Rattle.index_machine.specs.RecordConditions.{IsChangeTo, MayLink, MayUnlock}
+use Rattle.index_machine.specs.RecordConditions.{MayLink, MayUnlock}
 use Rattle.index_machine.specs.Rows.{HeldBy, InArray, InBuffer, Role, Unused, role, role_key}
 use Rattle.index_machine.specs.declared.events.Action.{Action}
 use Rattle.index_machine.specs.declared.events.Action.TheVariants.{Close, Copy, LinkRow, Lock}
@@ -23,11 +23,11 @@ use Rattle.index_machine.specs.declared.events.Action.TheVariants.{StoreRedirect
 use Rattle.index_machine.specs.declared.events.Action.TheVariants.{Unlock}
 use Rattle.index_machine.specs.declared.opening.Opening.{Opening}
 use Rattle.machine_places.proofs.Forms.{emptied_back, live_value-with_lock, live_value-with_value}
-use Rattle.machine_places.proofs.Forms.{live_value_if, none_some, some_is}
+use Rattle.index_machine.proofs.Options.{none_some, some_is}
+use Rattle.machine_places.proofs.Forms.{live_value_if}
 use Rattle.machine_places.specs.Agreement.{OnlyLive}
 use Rattle.map_model.specs.Map.{key_of}
 use Rattle.map_model.specs.declared.entries.Change.{Change}
-use Rattle.map_model.specs.declared.entries.Change.TheVariants as change
 
 -- a key in the role after the step was there before, if the place q is not placed by it
 drop_role : (q p : ℕ) (s u : Role) (k : ℕ) → role_key u ≡ None →
@@ -37,11 +37,6 @@ drop_role q p s u k none e = go (q == p) e
     go : (b : Bool) → role_key (cond b u s) ≡ Some k → role_key s ≡ Some k
     go true e = none_some (sym none ∙ e)
     go false e = e
-
-makes_removed : (c : ℕ) (was r : Bool) (y : ℕ) (d : Change) → IsChangeTo c was r y d → r ≡ true →
-    was ≡ false
-makes_removed c was r y (change.Put b k v) m e = let bad : false ≡ true = sym m.1 ∙ e in cc
-makes_removed c was r y (change.Remove b k) m e = m.2
 
 only_live_unlock : (o : Opening) (t : Execution) (b p : ℕ) (r : Bool) (d : Change) (raised : ℕ) →
     MayUnlock o t b p r d → OnlyLive o t → OnlyLive o (event b (Unlock p r d raised) ∷ t)

@@ -23,7 +23,7 @@ use Rattle.index_machine.specs.declared.events.Action.TheVariants.{LinkRow, NewG
 use Rattle.index_machine.specs.declared.events.Action.TheVariants.{PushFree, Retire}
 use Rattle.index_machine.specs.declared.events.Action.TheVariants.{StoreRedirect, Unlock}
 use Rattle.index_machine.specs.declared.opening.Opening.{Opening}
-use Rattle.machine_places.proofs.Forms.{not_so}
+use Rattle.index_machine.proofs.Options.{not_so}
 use Rattle.machine_places.proofs.FromOpening.{agreement}
 use Rattle.machine_places.specs.Agreement.{HasLiveValue}
 use Rattle.machine_places.specs.RowCounts.{LinkedRowsAreInserts, all_rows, is_linked_or_retired}

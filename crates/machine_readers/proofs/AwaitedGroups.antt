@@ -22,7 +22,7 @@ use Rattle.index_machine.specs.declared.opening.Opening.{Opening}
 use Rattle.machine_barriers.proofs.OpenedGroups.{begun_back, frozen_not, made_still, open_not}
 use Rattle.machine_barriers.proofs.OpenedGroups.{opened_back, opened_is}
 use Rattle.machine_barriers.proofs.Reaches.{may_as}
-use Rattle.machine_places.proofs.Forms.{named_before, none_some, some_is, still_named}
+use Rattle.index_machine.proofs.Options.{named_before, none_some, some_is, still_named}
 use Rattle.machine_readers.proofs.FormKinds.{Direct, Forward, kind, linked_kind, redirect_kind}
 use Rattle.machine_readers.proofs.Redirects.{phase_stays}
 use Rattle.machine_readers.proofs.Roles.{IsLinkOf, array_back, row_back}

@@ -12,7 +12,7 @@ use Rattle.index_machine.specs.Rows.{InBuffer, role}
 use Rattle.index_machine.specs.declared.events.Action.{Action}
 use Rattle.index_machine.specs.declared.events.Action.TheVariants.{LinkRow, NewGroup}
 use Rattle.index_machine.specs.declared.opening.Opening.{Opening}
-use Rattle.machine_places.proofs.Forms.{none_some}
+use Rattle.index_machine.proofs.Options.{none_some}
 use Rattle.machine_readers.proofs.Roles.{IsLinkOf, row_back}
 use Rattle.machine_readers.specs.Buffers.{RowsAreListed, rows}
 use Rattle.map_model.proofs.Histories.{look-put-else, look-put-here}

@@ -19,7 +19,7 @@ use Rattle.index_machine.specs.declared.opening.Opening.{Opening}
 use Rattle.machine_barriers.proofs.OpenedGroups.{opened_groups_hold}
 use Rattle.machine_barriers.proofs.Reaches.{may_as}
 use Rattle.machine_barriers.specs.Barriers.{OpenedGroupsHold}
-use Rattle.machine_places.proofs.Forms.{some_is}
+use Rattle.index_machine.proofs.Options.{some_is}
 use Rattle.machine_readers.proofs.AwaitedGroups.{NewGroupsAwait, PlacesBelong, in_group_back}
 use Rattle.machine_readers.proofs.AwaitedGroups.{new_groups_await, places_belong, successor_back}
 use Rattle.machine_readers.proofs.FormKinds.{Away, CopiesFrom, Direct, Empty, Forward, Kind}

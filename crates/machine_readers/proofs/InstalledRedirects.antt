@@ -27,7 +27,7 @@ use Rattle.machine_barriers.proofs.OpenedGroups.{begun_back, frozen_not, gone_on
 use Rattle.machine_barriers.proofs.OpenedGroups.{opened_back, opened_groups_hold, opened_is}
 use Rattle.machine_barriers.proofs.Reaches.{may_as}
 use Rattle.machine_barriers.specs.Barriers.{OpenedGroupsHold}
-use Rattle.machine_places.proofs.Forms.{none_some, some_is}
+use Rattle.index_machine.proofs.Options.{none_some, some_is}
 use Rattle.machine_readers.proofs.NewRedirects.{new_redirects, target_stays}
 use Rattle.machine_readers.proofs.Redirects.{redirect_on}
 use Rattle.machine_readers.proofs.Roles.{array_back}

@@ -15,7 +15,7 @@ use Rattle.index_machine.specs.declared.events.Action.TheVariants.{StoreDirect, 
 use Rattle.index_machine.specs.declared.events.Action.TheVariants.{StoreRedirect, StoreValue}
 use Rattle.index_machine.specs.declared.events.Action.TheVariants.{Unlock}
 use Rattle.index_machine.specs.declared.opening.Opening.{Opening}
-use Rattle.machine_places.proofs.Forms.{none_some}
+use Rattle.index_machine.proofs.Options.{none_some}
 
 -- a version lock is nobody else's to change
 pub locked_step : (o : Opening) (t : Execution) (b : ℕ) (d : Action) (c p k v x z : ℕ) (r : Bool) →

@@ -16,7 +16,7 @@ use Rattle.index_machine.specs.declared.events.Action.TheVariants.{StoreDirect, 
 use Rattle.index_machine.specs.declared.events.InstallWord.{InstallWord}
 use Rattle.index_machine.specs.declared.opening.Opening.{Opening}
 use Rattle.machine_barriers.proofs.Reaches.{may_as}
-use Rattle.machine_places.proofs.Forms.{named_before, none_some, some_is}
+use Rattle.index_machine.proofs.Options.{named_before, none_some, some_is}
 use Rattle.machine_readers.proofs.Redirects.{redirect_on}
 use Rattle.machine_readers.proofs.Roles.{EndsRole, array_back, role_stays}
 use Rattle.machine_readers.specs.Redirects.{NewRedirects, RedirectsInto}

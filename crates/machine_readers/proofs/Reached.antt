@@ -20,7 +20,7 @@ use Rattle.index_machine.specs.declared.opening.Opening.{Opening}
 use Rattle.machine_barriers.proofs.Gains.{reached_gain}
 use Rattle.machine_barriers.proofs.Reaches.{LeadsTo, loads_place}
 use Rattle.machine_barriers.specs.Gains.{LoadsPlace}
-use Rattle.machine_places.proofs.Forms.{not_so}
+use Rattle.index_machine.proofs.Options.{not_so}
 use Rattle.machine_readers.proofs.Redirects.{old_keyed, redirects_lead_to_old}
 use Rattle.machine_readers.proofs.Roles.{EndsRole, reached_stays, role_stays}
 use Rattle.machine_readers.specs.Redirects.{RedirectsLeadToOld}

@@ -14,7 +14,7 @@ use Rattle.index_machine.specs.declared.opening.Opening.{Opening}
 use Rattle.machine_barriers.proofs.Gains.{reached_gain}
 use Rattle.machine_barriers.proofs.Reaches.{LeadsTo, loads_place}
 use Rattle.machine_barriers.specs.Gains.{LoadsPlace}
-use Rattle.machine_places.proofs.Forms.{none_some, not_so, some_is}
+use Rattle.index_machine.proofs.Options.{none_some, not_so, some_is}
 use Rattle.machine_readers.proofs.CopiedPlaces.{places_are_filled, rows_forward_nowhere}
 use Rattle.machine_readers.proofs.FormKinds.{Away, CopiesFrom, Direct, Empty, Forward}
 use Rattle.machine_readers.proofs.FormKinds.{MakesDirect, kind, kind_step}

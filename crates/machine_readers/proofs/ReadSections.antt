@@ -5,14 +5,13 @@ use Rattle.std.specs.Prelude.{◌==◌, ◌&&◌}
 use Rattle.index_machine.proofs.Executions.{choice-other}
 use Rattle.index_machine.specs.Conditions.{Allowed, Valid}
 use Rattle.index_machine.specs.Execution.{Execution, event}
-use Rattle.index_machine.specs.Forms.{is_removed}
 use Rattle.index_machine.specs.Groups.{name_used_again, phase}
 use Rattle.index_machine.specs.KeyRanges.{group_of, or_else, successor}
 use Rattle.index_machine.specs.Openings.{within}
 use Rattle.index_machine.specs.Permissions.{IsUnopened}
-use Rattle.index_machine.specs.Places.{IsInGroup, form}
+use Rattle.index_machine.specs.Places.{IsInGroup}
 use Rattle.index_machine.specs.Reaching.{saw_open, saw_opened, stands_in}
-use Rattle.index_machine.specs.Rows.{InArray, InBuffer, role, role_key}
+use Rattle.index_machine.specs.Rows.{InArray, InBuffer, role}
 use Rattle.index_machine.specs.Sections.{IsCaller, IsNoCrossing, StaysInside}
 use Rattle.index_machine.specs.declared.events.Action.{Action}
 use Rattle.index_machine.specs.declared.events.Action.TheVariants.{Enter, Freeze, Install, Leave}
@@ -22,7 +21,6 @@ use Rattle.index_machine.specs.declared.events.Action.TheVariants.{StoreOpened, 
 use Rattle.index_machine.specs.declared.opening.Opening.{Opening}
 use Rattle.machine_barriers.proofs.OpenedGroups.{frozen_not, open_not}
 use Rattle.machine_readers.proofs.Roles.{array_stays, row_stays}
-use Rattle.machine_readers.proofs.Tombstones.{removed_step}
 use Rattle.word_layout.specs.Phase.{word_of_phase}
 use Rattle.word_layout.specs.declared.phase.Phase.{Phase}
 use Rattle.word_layout.specs.declared.phase.Phase.TheVariants.{Frozen, Open, Opened}
@@ -115,14 +113,6 @@ group_step o t b (Install spot lead low high) k g may un e = go (within low k hi
 group_step o t b d k g may un e = e
 
 module _ (o : Opening) (c g : ℕ) (is : IsCaller o c) where
-  pub unopened_before : (n t : Execution) → Valid o (n ++ t) → StaysInside c n →
-      stands_in c g t ≡ true → IsUnopened g (n ++ t) → IsUnopened g t
-  unopened_before [] t valid stay s un = un
-  unopened_before (e ∷ n) t valid stay s un =
-      unopened_before n t valid.1 stay.1 s (λ f z.
-      un f (opened_step o (n ++ t) e.by e.action c g f valid.0 is
-      (stands_in_on c g n t stay.1 s) z))
-
   -- a caller's group stays the group_of of the key as long as it isn't opened
   pub group_on : (k : ℕ) (n t : Execution) → Valid o (n ++ t) → StaysInside c n →
       stands_in c g t ≡ true → IsUnopened g (n ++ t) → group_of o k t ≡ g →
@@ -152,13 +142,3 @@ module _ (o : Opening) (c g : ℕ) (is : IsCaller o c) where
   place_on a k n t valid stay s there =
       ⊎_elim (λ (e : role o a t ≡ InArray g k). array_on a k n t valid stay s e ∙ sym e)
       (λ (e : role o a t ≡ InBuffer g k). row_on a k n t valid stay s e ∙ sym e) there
-
-  -- a removed place of its array stays removed
-  pub removed_on : (a k : ℕ) (n t : Execution) → Valid o (n ++ t) → StaysInside c n →
-      stands_in c g t ≡ true → role o a t ≡ InArray g k → is_removed (form o a t) ≡ true →
-      is_removed (form o a (n ++ t)) ≡ true
-  removed_on a k [] t valid stay s e at = at
-  removed_on a k (x ∷ n) t valid stay s e at = let here = array_on a k n t valid.1 stay.1 s e in
-      removed_step o (n ++ t) x.by x.action a k valid.0 (ap role_key here)
-      (λ h j b _ z _. let bad : InArray g k ≡ InBuffer h j = sym here ∙ z in cc)
-      (removed_on a k n t valid.1 stay.1 s e at)

@@ -22,7 +22,7 @@ use Rattle.index_machine.specs.declared.opening.Opening.{Opening}
 use Rattle.machine_barriers.proofs.OpenedGroups.{made_still, opened_groups_hold, seen_named}
 use Rattle.machine_barriers.proofs.Reaches.{may_as}
 use Rattle.machine_places.proofs.Agreement.{map_agrees}
-use Rattle.machine_places.proofs.Forms.{none_some, not_so, some_is, still_named}
+use Rattle.index_machine.proofs.Options.{none_some, not_so, some_is, still_named}
 use Rattle.machine_places.proofs.LivePlaces.{live_place-lives, live_places_stand}
 use Rattle.machine_places.proofs.LiveValues.{only_live}
 use Rattle.machine_places.specs.Agreement.{HasLiveValue, LivePlacesStand, MapAgrees, OnlyLive}

@@ -25,7 +25,7 @@ use Rattle.index_machine.specs.declared.opening.Opening.{Opening}
 use Rattle.machine_barriers.proofs.OpenedGroups.{frozen_not, open_not}
 use Rattle.machine_barriers.proofs.Reaches.{may_as}
 use Rattle.machine_barriers.specs.Barriers.{OpenedGroupsHold}
-use Rattle.machine_places.proofs.Forms.{none_some}
+use Rattle.index_machine.proofs.Options.{none_some}
 use Rattle.machine_readers.proofs.Roles.{EndsRole, array_back, role_stays}
 use Rattle.machine_readers.proofs.Tombstones.{IsNotRevivable, removed_step}
 use Rattle.machine_readers.specs.Redirects.{HasNoValue, IsOldPlace, RedirectsLeadToOld}
@@ -186,10 +186,6 @@ old_stays o t b d k a q y may point s = ⊎_elim
     (role o q t ≡ InArray g j)). absurd ((may_as o t b d
     (NewGroup w.0 w.1 w.2 w.3) w.5 may).no_target a q y w.4 point w.6)) z)
     (role_stays o t b d q k may (old_keyed o t k q s))
-
-keys_same : {g a k to h j q : ℕ} → StoreRedirect g a k to ≡ StoreRedirect h a j q →
-    (k ≡ j) × (to ≡ q)
-keys_same e = (cc, cc)
 
 redirects_step : (o : Opening) (t : Execution) (b : ℕ) (d : Action) → Allowed o t b d →
     RedirectsLeadToOld o t → RedirectsLeadToOld o (event b d ∷ t)

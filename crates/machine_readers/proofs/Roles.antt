@@ -17,7 +17,7 @@ use Rattle.index_machine.specs.declared.events.Action.TheVariants.{LinkRow, NewG
 use Rattle.index_machine.specs.declared.events.Action.TheVariants.{PushFree, Retire, StoreRedirect}
 use Rattle.index_machine.specs.declared.opening.Opening.{Opening}
 use Rattle.machine_barriers.proofs.Reaches.{may_as}
-use Rattle.machine_places.proofs.Forms.{none_some}
+use Rattle.index_machine.proofs.Options.{none_some}
 use Rattle.machine_readers.specs.Roles.{OnePlaceEach}
 use Rattle.map_model.specs.Map.{key_of}
 use Rattle.map_model.specs.declared.entries.Change.{Change}

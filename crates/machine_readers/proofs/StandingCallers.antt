@@ -18,7 +18,7 @@ use Rattle.index_machine.specs.declared.events.Action.TheVariants.{Install, NewG
 use Rattle.index_machine.specs.declared.events.InstallWord.{InstallWord}
 use Rattle.index_machine.specs.declared.opening.Opening.{Opening}
 use Rattle.machine_barriers.proofs.OpenedGroups.{made_still, opened_groups_hold}
-use Rattle.machine_places.proofs.Forms.{none_some, some_is, still_named}
+use Rattle.index_machine.proofs.Options.{none_some, some_is, still_named}
 use Rattle.machine_readers.proofs.AwaitedGroups.{belongs_on}
 use Rattle.machine_readers.proofs.CopiedPlaces.{copied_keys_have_left}
 use Rattle.machine_readers.proofs.FormKinds.{Away, kind}

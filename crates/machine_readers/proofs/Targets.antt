@@ -21,7 +21,7 @@ use Rattle.index_machine.specs.declared.events.InstallWord.{InstallWord}
 use Rattle.index_machine.specs.declared.opening.Opening.{Opening}
 use Rattle.machine_barriers.proofs.OpenedGroups.{open_not}
 use Rattle.machine_barriers.proofs.Reaches.{may_as}
-use Rattle.machine_places.proofs.Forms.{some_is, still_named}
+use Rattle.index_machine.proofs.Options.{some_is, still_named}
 use Rattle.machine_readers.proofs.CopiedPlaces.{CopiedKeysHaveLeft, PlacesAreFilled}
 use Rattle.machine_readers.proofs.CopiedPlaces.{copied_keys_have_left, one_group}
 use Rattle.machine_readers.proofs.CopiedPlaces.{places_are_filled}

@@ -21,7 +21,7 @@ use Rattle.index_machine.specs.declared.events.Action.TheVariants.{StoreDirect, 
 use Rattle.index_machine.specs.declared.events.Action.TheVariants.{StoreRedirect, StoreValue}
 use Rattle.index_machine.specs.declared.events.Action.TheVariants.{Unlock}
 use Rattle.index_machine.specs.declared.opening.Opening.{Opening}
-use Rattle.machine_places.proofs.Forms.{none_some, not_so}
+use Rattle.index_machine.proofs.Options.{none_some, not_so}
 use Rattle.map_model.specs.Map.{key_of}
 use Rattle.map_model.specs.declared.entries.Change.{Change}
 

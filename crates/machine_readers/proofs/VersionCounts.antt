@@ -27,7 +27,7 @@ use Rattle.index_machine.specs.declared.events.Action.TheVariants.{StoreRedirect
 use Rattle.index_machine.specs.declared.events.Action.TheVariants.{Unlock}
 use Rattle.index_machine.specs.declared.opening.Opening.{Opening}
 use Rattle.machine_barriers.proofs.Reaches.{caller_not_keeper}
-use Rattle.machine_places.proofs.Forms.{none_some, some_is}
+use Rattle.index_machine.proofs.Options.{none_some, some_is}
 use Rattle.machine_readers.proofs.Roles.{IsLinkOf, array_back, row_back}
 use Rattle.machine_readers.proofs.Versions.{keyed_not}
 use Rattle.machine_readers.specs.Versions.{HasVersion, VersionsCount}

@@ -16,7 +16,7 @@ use Rattle.index_machine.specs.declared.events.Action.TheVariants.{StoreDirect, 
 use Rattle.index_machine.specs.declared.events.Action.TheVariants.{StoreRedirect, StoreValue}
 use Rattle.index_machine.specs.declared.events.Action.TheVariants.{Unlock}
 use Rattle.index_machine.specs.declared.opening.Opening.{Opening}
-use Rattle.machine_places.proofs.Forms.{none_some}
+use Rattle.index_machine.proofs.Options.{none_some}
 use Rattle.machine_readers.specs.Readers.{KeepsKey}
 
 -- past every unlocked state of the version v
@@ -158,16 +158,7 @@ same_on o p k v x r (a ∷ n) t valid s e = ⊎_elim
     (past_step o (n ++ t) a.by a.action p k v valid.0 s.0 z))
     (same_on o p k v x r n t valid.1 s.1 e)
 
--- the second load of the state: the same version again, so the value word between was this one
-pub same_version : (o : Opening) (p k v x y : ℕ) (r u : Bool) (n t : Execution) → Valid o (n ++ t) →
-    KeepsKey o p k n t → form o p t ≡ Unlocked v r x → form o p (n ++ t) ≡ Unlocked v u y →
-    form o p (n ++ t) ≡ Unlocked v r x
-same_version o p k v x y r u n t valid s e f =
-    ⊎_elim (λ (z : form o p (n ++ t) ≡ Unlocked v r x). z)
-    (λ (z : IsPast v (form o p (n ++ t))). let a : v < v = subst (IsPast v) f z in
-    absurd (omega (arith, a))) (same_on o p k v x r n t valid s e)
-
--- and at a moment between
+-- where two loads of a state word find one unlocked version, it was that one at each moment between
 pub same_between : (o : Opening) (p k v x y : ℕ) (r u : Bool) (m n t : Execution) →
     Valid o (m ++ (n ++ t)) → Valid o (n ++ t) → KeepsKey o p k m (n ++ t) → KeepsKey o p k n t →
     form o p t ≡ Unlocked v r x → form o p (m ++ (n ++ t)) ≡ Unlocked v u y →

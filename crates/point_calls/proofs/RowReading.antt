@@ -7,7 +7,7 @@ use Rattle.index_machine.specs.Execution.{Continues}
 use Rattle.index_machine.specs.LivePlaces.{value_in_map}
 use Rattle.index_machine.specs.Places.{form}
 use Rattle.index_machine.specs.Rows.{InBuffer, role, role_key}
-use Rattle.machine_places.proofs.Forms.{some_is}
+use Rattle.index_machine.proofs.Options.{some_is}
 use Rattle.index_rule.specs.declared.board.Board.{Board}
 use Rattle.index_rule.specs.declared.hand.Hand.{Hand}
 use Rattle.index_rule.specs.Hands.{IsHandOf, Makes, known, opening_of}

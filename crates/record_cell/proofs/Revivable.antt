@@ -24,7 +24,7 @@ use Rattle.machine_barriers.proofs.OpenedGroups.{open_not, opened_groups_hold}
 use Rattle.machine_barriers.proofs.Reaches.{may_as}
 use Rattle.machine_places.proofs.FromOpening.{agreement}
 use Rattle.machine_places.specs.Agreement.{HasLiveValue}
-use Rattle.machine_places.proofs.Forms.{none_some}
+use Rattle.index_machine.proofs.Options.{none_some}
 use Rattle.machine_readers.proofs.FormsMet.{groups_hold}
 use Rattle.machine_readers.proofs.FromOpening.{buffer_tombstones, insert_behind, insert_open}
 use Rattle.machine_readers.proofs.FromOpening.{one_place_each, stay_behind, without_value}

@@ -16,7 +16,7 @@ use Rattle.index_machine.specs.Conditions.{Valid}
 use Rattle.index_machine.proofs.Executions.{continues_trans}
 use Rattle.machine_places.specs.Agreement.{HasLiveValue}
 use Rattle.machine_places.proofs.FromOpening.{agreement}
-use Rattle.machine_places.proofs.Forms.{none_some}
+use Rattle.index_machine.proofs.Options.{none_some}
 use Rattle.machine_readers.specs.Redirects.{HasNoValue}
 use Rattle.machine_readers.specs.Versions.{HasVersion}
 use Rattle.machine_readers.proofs.FormsMet.{not_blank}

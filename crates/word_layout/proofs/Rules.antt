@@ -1,8 +1,8 @@
 -- What the table of rules says of the numbers, and the first rule that is broken.
-use Rattle.std.proofs.Common.{◌≡◌, ℕ, ◌+◌, ◌-◌, ◌≤◌, Bool, true, false, not, List, [], ◌∷◌, length, refl, arith, ◌&&◌, zero, suc}
-use Rattle.std.specs.Prelude.{Some, None, nat_le, position, slice_index_or}
+use Rattle.std.proofs.Common.{◌≡◌, ℕ, ◌+◌, ◌-◌, ◌≤◌, Bool, true, false, not, List, [], ◌∷◌, length, refl, arith, ◌&&◌}
+use Rattle.std.specs.Prelude.{Some, None, nat_le, position}
 use Rattle.std.specs.List.{list_all, position_or_len}
-use Rattle.std.proofs.lemmas.Bool.{leb-true, le-leb, not-true, not-false}
+use Rattle.std.proofs.lemmas.Bool.{leb-true, not-true, not-false}
 use Rattle.std.proofs.lemmas.Bool.Decides.{nat_tests}
 use Rattle.std.proofs.lemmas.List.Quantifiers.{position-Some}
 use Rattle.word_layout.specs.declared.limits.Limits.{Limits}
@@ -45,11 +45,6 @@ within-true least value most h =
     let parts = both (nat_le least value) (nat_le value most) h in
     (leb-true least value parts.0, leb-true value most parts.1)
 
-within-from : (least value most : ℕ) → least ≤ value → value ≤ most →
-    is_within least value most ≡ true
-within-from least value most low high =
-    rw (le-leb least value low, le-leb value most high)
-
 -- no rule is broken, so each number is within its bounds
 pub all_kept : (l : Limits) → position (λ test. not test) (rules l) ≡ None → KeepsRules l
 all_kept l h =
@@ -83,28 +78,3 @@ all_kept l h =
       most_first_version = leb-true l.first_version 1152921504606846975 first_version.0;
       most_words = leb-true (word_count l) 268435456 words.0;
     }
-
--- a test that failed is among them, so not all passed
-some_false : (tests : List Bool) (i : ℕ) → slice_index_or tests i true ≡ false →
-    list_all (λ test. test) tests ≡ true → ⊥
-some_false [] i h all = cc
-some_false (false ∷ tests) i h all = cc
-some_false (true ∷ tests) zero h all = cc
-some_false (true ∷ tests) (suc i) h all = some_false tests i h all
-
--- each number is within its bounds, so no rule is broken
-pub not_broken : (l : Limits) (number : ℕ) → KeepsRules l → IsFirstBroken l number → ⊥
-not_broken l number kept first =
-    some_false (rules l) (number - 1) first.broken
-    (rw (
-      within-from 1 l.callers 64 kept.least_callers kept.most_callers,
-      within-from 2 l.records 16777216 kept.least_records kept.most_records,
-      within-from 2 l.groups 65536 kept.least_groups kept.most_groups,
-      within-from 8 l.group_size 1024 kept.least_group_size kept.most_group_size,
-      within-from 1 l.slots 4096 kept.least_slots kept.most_slots,
-      within-from 1 l.due l.group_size kept.least_due kept.most_due,
-      within-from 1 l.help 1048576 kept.least_help kept.most_help,
-      within-from 1 l.chain 4096 kept.least_chain kept.most_chain,
-      le-leb l.first_version 1152921504606846975 kept.most_first_version,
-      le-leb (word_count l) 268435456 kept.most_words,
-    ))

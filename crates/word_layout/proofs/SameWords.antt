@@ -1,5 +1,5 @@
 -- When two names are of one word.
-use Rattle.std.proofs.Common.{◌≡◌, ◌≢◌, Bool, true, false, ◌&&◌, refl, sym, ap, ◌∙◌, eq-eqb}
+use Rattle.std.proofs.Common.{◌≡◌, Bool, true, false, ◌&&◌, refl, sym, ap, ◌∙◌, eq-eqb}
 use Rattle.std.specs.Prelude.{◌==◌}
 use Rattle.std.proofs.lemmas.Bool.{eqb-true}
 use Rattle.word_layout.specs.declared.headers.HeaderWord.{HeaderWord}
@@ -61,11 +61,3 @@ same_word-true (PlaceWord p a) (PlaceWord q b) e =
     let part = part_of_offset a b (eqb-true (part_offset a) (part_offset b) parts.1) in
     cc
 same_word-true w v h = absurd cc
-
--- where the two names differ, the test fails
-pub other_word : (w v : Word) → w ≢ v → same_word w v ≡ false
-other_word w v differ = by_test (same_word w v) refl
-  where
-    by_test : (b : Bool) → same_word w v ≡ b → same_word w v ≡ false
-    by_test true e = absurd (differ (same_word-true w v e))
-    by_test false e = e

@@ -3,7 +3,7 @@
 use Rattle.std.proofs.Common.{◌≡◌, ◌≢◌, ℕ, ◌+◌, ◌<◌, ◌≤◌, inl, inr, ⊎_elim, Some}
 use Rattle.std.proofs.Common.{None, Bool, true, false, [], cond, refl, sym, ◌∙◌, subst}
 use Rattle.std.proofs.Common.{arith, nat_lt, ◌⊎◌}
-use Rattle.machine_keeper.proofs.Ranges.{Same, SameOption}
+use Rattle.worked_executions.proofs.Ranges.{Same, SameOption}
 use Rattle.std.proofs.lemmas.Bool.{ltb-false, ltb-true}
 use mathlib.Core.Logic.{dite}
 use native.Mathlib.Decide.{ℕ_discrete}
@@ -18,26 +18,26 @@ use Rattle.index_machine.specs.RebuildConditions.{AreChained, HasNewGroup, IsBeh
 use Rattle.index_machine.specs.RebuildConditions.{IsNextWord, IsSettled, IsSized, MayBegin}
 use Rattle.index_machine.specs.RebuildConditions.{MayFillHeader, MayInstall, MayOpen}
 use Rattle.index_machine.specs.Words.{limits, word}
-use Rattle.machine_keeper.proofs.Ranges.{in_range, range_in}
+use Rattle.worked_executions.proofs.Ranges.{in_range, range_in}
 use Rattle.index_machine.specs.Rows.{InArray, role}
 use Rattle.word_layout.specs.Addresses.{array_address}
 use Rattle.word_layout.specs.Words.{Header}
 use Rattle.index_machine.specs.declared.events.InstallWord.TheVariants.{FirstSlot}
 use Rattle.machine_barriers.proofs.OpenedGroups.{open_not}
-use Rattle.machine_keeper.specs.NameUsedAgain.{NamesAreUsedAgain}
-use Rattle.machine_places.proofs.Forms.{named_before, none_some, not_so, some_is}
+use Rattle.worked_executions.specs.NameUsedAgain.{NamesAreUsedAgain}
+use Rattle.index_machine.proofs.Options.{named_before, none_some, not_so, some_is}
 use Rattle.word_layout.specs.declared.headers.HeaderWord.TheVariants as header
 use Rattle.word_layout.specs.declared.phase.Phase.TheVariants.{Open, Opened}
-use Rattle.machine_keeper.proofs.FourGroups.{o, frozen_0, step_1, step_2}
-use Rattle.machine_keeper.proofs.FourGroups.{step_3, step_4, step_5, frozen_1, step_6, step_7}
-use Rattle.machine_keeper.proofs.FourGroups.{step_8, frozen_2, step_10, step_11, step_12}
-use Rattle.machine_keeper.proofs.FourGroups.{is_low, is_high, new_1, group_1, new_2, group_2}
-use Rattle.machine_keeper.proofs.FourGroups.{new_3, at_key, not_1_in_0, not_2_in_0}
-use Rattle.machine_keeper.proofs.FourGroups.{not_0_in_1, not_3_in_1, not_0_in_2, not_1_in_2}
-use Rattle.machine_keeper.proofs.FourGroups.{not_1_after, none_1, none_2, none_3}
-use Rattle.machine_keeper.proofs.FourGroups.{opened_6, opened_7, opened_11, none_12}
-use Rattle.machine_keeper.proofs.FourGroups.{is_keeper, no_insert}
-use Rattle.machine_keeper.proofs.FourGroups.{first_slot_used, gone_if}
+use Rattle.worked_executions.proofs.FourGroups.{o, frozen_0, step_1, step_2}
+use Rattle.worked_executions.proofs.FourGroups.{step_3, step_4, step_5, frozen_1, step_6, step_7}
+use Rattle.worked_executions.proofs.FourGroups.{step_8, frozen_2, step_10, step_11, step_12}
+use Rattle.worked_executions.proofs.FourGroups.{is_low, is_high, new_1, group_1, new_2, group_2}
+use Rattle.worked_executions.proofs.FourGroups.{new_3, at_key, not_1_in_0, not_2_in_0}
+use Rattle.worked_executions.proofs.FourGroups.{not_0_in_1, not_3_in_1, not_0_in_2, not_1_in_2}
+use Rattle.worked_executions.proofs.FourGroups.{not_1_after, none_1, none_2, none_3}
+use Rattle.worked_executions.proofs.FourGroups.{opened_6, opened_7, opened_11, none_12}
+use Rattle.worked_executions.proofs.FourGroups.{is_keeper, no_insert}
+use Rattle.worked_executions.proofs.FourGroups.{first_slot_used, gone_if}
 
 -- ---- the first rebuild ----
 

@@ -2,7 +2,7 @@
 use Rattle.std.proofs.Common.{◌≡◌, ◌≢◌, ℕ, ◌+◌, ◌*◌, ◌<◌, ◌≤◌, inl, inr, ⊎_elim, Option, Some}
 use Rattle.std.proofs.Common.{None, Bool, true, false, [], ◌∷◌, cond, refl, sym, ◌∙◌, subst}
 use Rattle.std.proofs.Common.{arith, nat_lt, ◌⊎◌}
-use Rattle.machine_keeper.proofs.Ranges.{Same, SameOption}
+use Rattle.worked_executions.proofs.Ranges.{Same, SameOption}
 use Rattle.std.proofs.lemmas.Bool.{le-ltb, lt-ltb, ltb-false, ltb-true}
 use mathlib.Core.Logic.{dite}
 use native.Mathlib.Decide.{ℕ_discrete}
@@ -20,8 +20,8 @@ use Rattle.index_machine.specs.declared.events.InstallWord.TheVariants.{FirstSlo
 use Rattle.index_machine.specs.declared.opening.Opening.{Opening}
 use Rattle.machine_barriers.proofs.OpenedGroups.{begun_back, frozen_not, open_not, opened_back}
 use Rattle.machine_barriers.proofs.OpenedGroups.{opened_is}
-use Rattle.machine_keeper.specs.NameUsedAgain.{four_groups}
-use Rattle.machine_places.proofs.Forms.{none_some, not_so, some_is}
+use Rattle.worked_executions.specs.NameUsedAgain.{four_groups}
+use Rattle.index_machine.proofs.Options.{none_some, not_so, some_is}
 use Rattle.word_layout.specs.declared.headers.HeaderWord.TheVariants as header
 use Rattle.word_layout.specs.declared.layout.Layout.{Layout}
 use Rattle.word_layout.specs.declared.phase.Phase.TheVariants.{Frozen, Open, Opened}

@@ -3,7 +3,7 @@
 use Rattle.std.proofs.Common.{◌≡◌, ℕ, ◌+◌, ◌*◌, ◌<◌, ◌≤◌, inl, inr, ⊎_elim, Some}
 use Rattle.std.proofs.Common.{None, Bool, true, false, [], ◌∷◌, cond, refl, sym, ap, ◌∙◌, subst}
 use Rattle.std.proofs.Common.{arith, nat_lt, ltb-true, ltb-false}
-use Rattle.machine_keeper.proofs.Ranges.{Same, SameOption}
+use Rattle.worked_executions.proofs.Ranges.{Same, SameOption}
 use Rattle.std.specs.Prelude.{◌==◌}
 use mathlib.Core.Logic.{dite}
 use native.Mathlib.Decide.{ℕ_discrete}
@@ -23,14 +23,14 @@ use Rattle.index_machine.specs.RecordConditions.{MayLink, MayLoadState, MayLock}
 use Rattle.index_machine.specs.RecordConditions.{MayUnlock}
 use Rattle.index_machine.specs.Rows.{HeldBy, HoldsNone, InArray, InBuffer, Unused}
 use Rattle.index_machine.specs.Sections.{IsCaller, IsHand, IsInside, IsReading}
-use Rattle.machine_keeper.proofs.Ranges.{in_range, range_in}
-use Rattle.machine_keeper.proofs.SmallForms.{no_lock_changed, no_lock_first}
-use Rattle.machine_keeper.proofs.SmallTable.{changed_1, changed_10}
-use Rattle.machine_keeper.proofs.SmallTable.{changed_2, changed_3, changed_4, changed_5, changed_6}
-use Rattle.machine_keeper.proofs.SmallTable.{changed_8, l, o, opened_1, opened_2, opened_3}
-use Rattle.machine_keeper.proofs.SmallTable.{put_1, put_10}
-use Rattle.machine_keeper.proofs.SmallTable.{put_12, put_2, put_3, put_4, put_5, put_6, put_7}
-use Rattle.machine_places.proofs.Forms.{none_some, not_so, some_is}
+use Rattle.worked_executions.proofs.Ranges.{in_range, range_in}
+use Rattle.worked_executions.proofs.SmallForms.{no_lock_changed, no_lock_first}
+use Rattle.worked_executions.proofs.SmallTable.{changed_1, changed_10}
+use Rattle.worked_executions.proofs.SmallTable.{changed_2, changed_3, changed_4, changed_5, changed_6}
+use Rattle.worked_executions.proofs.SmallTable.{changed_8, l, o, opened_1, opened_2, opened_3}
+use Rattle.worked_executions.proofs.SmallTable.{put_1, put_10}
+use Rattle.worked_executions.proofs.SmallTable.{put_12, put_2, put_3, put_4, put_5, put_6, put_7}
+use Rattle.index_machine.proofs.Options.{none_some, not_so, some_is}
 use Rattle.index_machine.specs.Words.{word}
 use Rattle.word_layout.specs.Words.{Header}
 use Rattle.word_layout.specs.declared.phase.Phase.TheVariants.{Frozen, Open, Opened}

@@ -1,6 +1,7 @@
 -- The form of a place of the small table, for the choice whether it is the row of the buffer or the
--- first place of the array: the caller holds no version lock as it leaves.
-use Rattle.std.proofs.Common.{◌≡◌, Bool, true, false, cond}
+-- first place of the array: the caller holds no version lock as it leaves, and the copy leaves no
+-- redirect.
+use Rattle.std.proofs.Common.{◌≡◌, ℕ, Bool, true, false, cond}
 use Rattle.index_machine.specs.Forms.{Blank, Form, IsLockedBy, Locked, Moved, Redirect, Unlocked}
 use Rattle.index_machine.specs.Forms.{with_lock, with_value, without_lock, made_direct}
 use Rattle.index_machine.specs.Forms.{copied_away}
@@ -44,3 +45,11 @@ pub no_lock_rebuilt : (w v : Bool) → IsLockedBy 0 (cond w Moved (direct_form w
 no_lock_rebuilt true v z = let bad : Moved ≡ Locked 0 z.0 z.1 z.2 z.3 = z.4 in cc
 no_lock_rebuilt false true z = let bad : Unlocked 0 false 8 ≡ Locked 0 z.0 z.1 z.2 z.3 = z.4 in cc
 no_lock_rebuilt false false z = let bad : Blank ≡ Locked 0 z.0 z.1 z.2 z.3 = z.4 in cc
+
+-- after the copy no place has a redirect
+pub no_redirect_rebuilt : (w v : Bool) (to value : ℕ) →
+    cond w Moved (direct_form w v) ≡ Redirect to value → ⊥
+no_redirect_rebuilt true v to value e = let bad : Moved ≡ Redirect to value = e in cc
+no_redirect_rebuilt false true to value e =
+    let bad : Unlocked 0 false 8 ≡ Redirect to value = e in cc
+no_redirect_rebuilt false false to value e = let bad : Blank ≡ Redirect to value = e in cc

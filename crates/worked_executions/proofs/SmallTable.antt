@@ -15,7 +15,7 @@ use Rattle.index_machine.specs.declared.events.Action.TheVariants.{StoreRedirect
 use Rattle.index_machine.specs.declared.events.Action.TheVariants.{Unlock}
 use Rattle.index_machine.specs.declared.events.InstallWord.TheVariants.{FirstSlot}
 use Rattle.index_machine.specs.declared.opening.Opening.{Opening}
-use Rattle.machine_keeper.specs.Witness.{small_limits}
+use Rattle.worked_executions.specs.Witness.{small_limits}
 use Rattle.word_layout.specs.declared.layout.Layout.{Layout}
 use Rattle.word_layout.specs.declared.limits.Limits.{Limits}
 use Rattle.word_layout.specs.declared.headers.HeaderWord.TheVariants as header
@@ -202,6 +202,3 @@ again_2 = event 1 (StoreHeader 0 header.Phase 0) ∷ again_1
 
 abbrev pub again_3 : Execution
 again_3 = event 1 (StoreHeader 0 header.BufferHead 0) ∷ again_2
-
-abbrev pub again_4 : Execution
-again_4 = event 1 (NewGroup 0 0 greatest_key 0) ∷ again_3

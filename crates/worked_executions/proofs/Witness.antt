@@ -3,7 +3,7 @@
 use Rattle.std.proofs.Common.{◌≡◌, ◌≢◌, ℕ, ◌+◌, ◌*◌, inl, inr, ⊎_elim, Some}
 use Rattle.std.proofs.Common.{None, Bool, true, false, [], ◌∷◌, cond, refl, sym, ap, ◌∙◌, subst}
 use Rattle.std.proofs.Common.{arith}
-use Rattle.machine_keeper.proofs.Ranges.{Same, SameOption}
+use Rattle.worked_executions.proofs.Ranges.{Same, SameOption}
 use Rattle.std.specs.Prelude.{◌==◌}
 use mathlib.Core.Logic.{dite}
 use native.Mathlib.Decide.{ℕ_discrete}
@@ -29,26 +29,25 @@ use Rattle.index_machine.specs.declared.events.InstallWord.TheVariants.{FirstSlo
 use Rattle.line_window.specs.Line.{guess_between}
 use Rattle.machine_barriers.proofs.Gains.{test_is}
 use Rattle.machine_barriers.proofs.OpenedGroups.{opened_is}
-use Rattle.machine_keeper.proofs.FromOpening.{all_pending}
-use Rattle.machine_keeper.proofs.SmallForms.{no_lock_rebuilt}
-use Rattle.machine_keeper.proofs.SmallTable.{again_1, again_2, again_3}
-use Rattle.machine_keeper.proofs.SmallTable.{o}
-use Rattle.machine_keeper.proofs.SmallTable.{popped_1, popped_2, popped_3, popped_5}
-use Rattle.machine_keeper.proofs.SmallTable.{redirected, rebuilt_1, rebuilt_10, rebuilt_2, rebuilt_3, rebuilt_5}
-use Rattle.machine_keeper.proofs.SmallTable.{rebuilt_7, rebuilt_9}
-use Rattle.machine_keeper.specs.Witness.{WholeRebuildIsValid}
-use Rattle.machine_places.proofs.Forms.{none_some, not_so, some_is}
+use Rattle.worked_executions.proofs.SmallForms.{no_lock_rebuilt, no_redirect_rebuilt}
+use Rattle.worked_executions.proofs.SmallTable.{again_1, again_2, again_3}
+use Rattle.worked_executions.proofs.SmallTable.{o}
+use Rattle.worked_executions.proofs.SmallTable.{popped_1, popped_2, popped_3, popped_5}
+use Rattle.worked_executions.proofs.SmallTable.{redirected, rebuilt_1, rebuilt_10, rebuilt_2, rebuilt_3, rebuilt_5}
+use Rattle.worked_executions.proofs.SmallTable.{rebuilt_7, rebuilt_9}
+use Rattle.worked_executions.specs.Witness.{WholeRebuildIsValid}
+use Rattle.index_machine.proofs.Options.{none_some, not_so, some_is}
 use Rattle.index_machine.specs.Words.{word}
 use Rattle.word_layout.specs.Words.{Header}
 use Rattle.word_layout.specs.declared.headers.HeaderWord.{HeaderWord}
 use Rattle.word_layout.specs.declared.phase.Phase.TheVariants.{Frozen, Open, Opened}
 use Rattle.word_layout.specs.declared.headers.HeaderWord.TheVariants as header
-use Rattle.machine_keeper.proofs.OpenedWitness.{caller_is, is_caller, is_hand0}
-use Rattle.machine_keeper.proofs.OpenedWitness.{is_hand1, first_slot_used, before_group}
-use Rattle.machine_keeper.proofs.OpenedWitness.{after_group, reading}
-use Rattle.machine_keeper.proofs.OpenedWitness.{no_insert, new_unopened}
-use Rattle.machine_keeper.proofs.OpenedWitness.{new_group, new_within}
-use Rattle.machine_keeper.proofs.OpenedWitness.{valid_changed_10}
+use Rattle.worked_executions.proofs.OpenedWitness.{caller_is, is_caller, is_hand0}
+use Rattle.worked_executions.proofs.OpenedWitness.{is_hand1, first_slot_used, before_group}
+use Rattle.worked_executions.proofs.OpenedWitness.{after_group, reading}
+use Rattle.worked_executions.proofs.OpenedWitness.{no_insert, new_unopened}
+use Rattle.worked_executions.proofs.OpenedWitness.{new_group, new_within}
+use Rattle.worked_executions.proofs.OpenedWitness.{valid_changed_10}
 
 -- ---- merging and the install ----
 
@@ -294,10 +293,6 @@ live_new : (w : Bool) → SameOption (cond w (Some 55) (cond w (Some 87) (cond w
 live_new true e = let bad : Same 55 87 = some_is e in omega (arith, bad)
 live_new false e = none_some e
 
-no_pending : (w : Bool) (q : ℕ) → SameOption (cond w None (cond w (Some 87) None)) (Some q) → ⊥
-no_pending true q e = none_some e
-no_pending false q e = none_some e
-
 unreached_by_all : (t : Execution) (p : ℕ) → reached 0 p t ≡ false → (c : ℕ) → IsCaller o c →
     reached c p t ≡ true → ⊥
 unreached_by_all t p none c is r = not_so (sym none
@@ -308,7 +303,7 @@ retires_it = record {
   keeper = refl;
   found_word = refl;
   not_live = λ k e. live_new (5 == k) e;
-  no_target = λ a y e. no_pending (55 == a) 87 (all_pending o rebuilt_7 valid_rebuilt_7 a 87 y e);
+  no_target = λ a y e. no_redirect_rebuilt (87 == a) (55 == a) 87 y e;
   unreached = unreached_by_all rebuilt_7 87 refl;
   where_it_is = (0, 5, refl, replaced0 rebuilt_7 gone0_rebuilt_7 old_is_0 refl);
 }

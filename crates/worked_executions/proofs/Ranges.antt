@@ -2,7 +2,7 @@
 use Rattle.std.proofs.Common.{◌≡◌, ℕ, ◌≤◌, Option, Bool, true, false, cond, refl, nat_lt}
 use Rattle.std.proofs.Common.{le-ltb, ltb-false}
 use Rattle.index_machine.specs.Openings.{within}
-use Rattle.machine_places.proofs.Forms.{not_so}
+use Rattle.index_machine.proofs.Options.{not_so}
 
 -- equations of numbers and of what may be one, as types with names of their own
 abbrev pub Same : ℕ → ℕ → Type 0

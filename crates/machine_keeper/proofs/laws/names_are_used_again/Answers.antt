@@ -1,5 +1,0 @@
-use Rattle.machine_keeper.proofs.NameUsedAgain.{name_again_valid}
-use Rattle.machine_keeper.proofs.laws.names_are_used_again.Goals as goal
-
-pub returns : goal.returns
-returns c = name_again_valid

@@ -1,0 +1,15 @@
+//! Executions that are valid. Each function is a law and does nothing.
+ghost use Rattle.worked_executions.specs.NameUsedAgain.{NamesAreUsedAgain};
+ghost use Rattle.worked_executions.specs.Witness.{WholeRebuildIsValid};
+
+/// A whole rebuild, with callers' steps in between, is a valid execution, to its end with a row and
+/// a group row used again.
+pub fn whole_rebuild_is_valid()
+    ensures { WholeRebuildIsValid }
+{}
+
+/// A rebuild may be named by a free group row while a group that the old rebuild of this name made
+/// is still in the chain, and this group is opened to it.
+pub fn names_are_used_again()
+    ensures { NamesAreUsedAgain }
+{}

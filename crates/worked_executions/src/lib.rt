@@ -1,0 +1,11 @@
+//! Whole rebuilds, event by event, as valid executions: the conditions of their steps can be met
+//! together.
+//!
+//! They show no more than what happens in them. No caller is inside at a step of the keeper, no
+//! group that an install replaces has a left neighbour in the chain, nobody stores a slot or the
+//! root, no group is thawed, and no rebuild has two old groups.
+#![tactic(auto)]
+
+mod laws;
+
+pub use laws::{names_are_used_again, whole_rebuild_is_valid};
