@@ -1,0 +1,22 @@
+//! The tests of the crates that share one board, and of the index over them.
+//!
+//! They stand in a crate of their own, since others stand on those crates and a crate with tests is proved twice.
+//! Nothing stands on this one.
+#![tactic(auto)]
+
+#[cfg(test)]
+mod barriers;
+#[cfg(test)]
+mod boards;
+#[cfg(test)]
+mod closed_boards;
+#[cfg(test)]
+mod free_rows;
+#[cfg(test)]
+mod hand_notes;
+#[cfg(test)]
+mod records;
+#[cfg(test)]
+mod records_at_once;
+#[cfg(test)]
+mod values_in_turn;
