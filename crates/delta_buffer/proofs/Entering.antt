@@ -149,15 +149,17 @@ module _ (b : Board) (h r : Hand) (root place : ℕ) (board : IsEmptyBoard b)
           let built = built_known b s p third names.of looks in
           record {
             search = record {
-              of = looks.of;
-              reading = still_inside b s p third names.of looks tt reading_s;
+              call = record {
+                of = looks.of;
+                reading = still_inside b s p third names.of looks tt reading_s;
+                holds_none = still_holds_no_lock b s p third names.of looks (λ z. z)
+                    (still_holds_no_lock b r s second loads.of names (λ z. z)
+                    (still_holds_no_lock b h r first inside.of loads (λ z. z)
+                    inside.may_leave.holds_none));
+              };
               stands = stands_p;
               walkable = of_keys o (known p) valid 0 (inl (0, group_of_zero o (known p) built));
               in_table = let two = board.groups in omega arith;
-              holds_none = still_holds_no_lock b s p third names.of looks (λ z. z)
-                  (still_holds_no_lock b r s second loads.of names (λ z. z)
-                  (still_holds_no_lock b h r first inside.of loads (λ z. z)
-                  inside.may_leave.holds_none));
             };
             row = seven_on b place h p
                 (row_on b place h s p third tt (λ c. refl) names.of looks
@@ -188,10 +190,10 @@ pub can_insert : (b : Board) (place before next : ℕ) (h k : Hand) → IsAtGrou
     CanInsert (opening_of b) k.number 0 place before next (known k)
 can_insert b place before next h k at walks gap =
     let o = opening_of b in
-    let on : GoesOnInside b h k = walk_inside b 0 h k at.search.of at.valid walks in
-    let has = walk_keeps_row b 0 place h k at.search.of walks at.row.filled.held in
+    let on : GoesOnInside b h k = walk_inside b 0 h k at.search.call.of at.valid walks in
+    let has = walk_keeps_row b 0 place h k at.search.call.of walks at.row.filled.held in
     let seven = seven_on b place h k has at.row in
-    let caller = at.search.reading.caller in
+    let caller = at.search.call.reading.caller in
     let whole : Valid o (on.newer ++ known h) = subst (Valid o) (sym on.on) on.valid in
     let none : KnowsNoneElsewhere o h.number 7 0 (on.newer ++ known h) =
     elsewhere_on o h.number 7 0 caller on.newer (known h) whole on.stays

@@ -61,9 +61,9 @@ rows_follow : (b : Board) (g before next : ℕ) (h k : Hand) → CanSearch b g h
 rows_follow b g before next h k can follows =
     let d = load_of_link g before next in
     let none = no_crossing g d (link_is_walk g before next) in
-    now b h k d can.of follows (λ z t. AllAmong (rows g (known h)) (rows g t))
-    (rows_while (opening_of b) h.number g can.reading.caller (since b h k d can.of follows)
-    (known h) (valid_after b h k d can.of follows) (goes_on_inside b h k d can.of follows none)
+    now b h k d can.call.of follows (λ z t. AllAmong (rows g (known h)) (rows g t))
+    (rows_while (opening_of b) h.number g can.call.reading.caller (since b h k d can.call.of follows)
+    (known h) (valid_after b h k d can.call.of follows) (goes_on_inside b h k d can.call.of follows none)
     can.stands can.walkable)
 
 -- ---- a table's rows ----
@@ -169,7 +169,7 @@ module _ (b : Board) (g next count : ℕ) (h m : Hand) (has : HasCounted b g nex
       let on = arrives b g (met.0 + 1) next next2 h m k has.on.search has.on.number
       (begun_since h (known m) has.on.begun) has.on.log
       has.on.walks
-      (λ d q. begun_on h (known m) (known k) has.on.begun (goes_on b m k d has.on.search.of q))
+      (λ d q. begun_on h (known m) (known k) has.on.begun (goes_on b m k d has.on.search.call.of q))
       (inr (met.0, met.1.0, omega arith)) follows in
       let stay = rows_follow b g next next2 m k has.on.search follows in
       record {

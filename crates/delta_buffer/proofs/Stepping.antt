@@ -58,15 +58,17 @@ pub search_after : (b : Board) (g : ℕ) (h k : Hand) (d : Action) → IsNoCross
     (TakesLock d → ⊥) → Makes b h d k → CanSearch b g h → CanSearch b g k
 search_after b g h k d none free m can =
     record {
-      of = m.of;
-      reading = still_inside b h k d can.of m none can.reading;
-      stands = still_stands b h k d can.of m none g can.stands;
-      walkable = now b h k d can.of m (λ z t. IsWalkable (opening_of b) g t)
-          (walkable_while (opening_of b) h.number g can.reading.caller (since b h k d can.of m)
-          (known h) (valid_after b h k d can.of m) (goes_on_inside b h k d can.of m none)
+      call = record {
+        of = m.of;
+        reading = still_inside b h k d can.call.of m none can.call.reading;
+        holds_none = still_holds_no_lock b h k d can.call.of m free can.call.holds_none;
+      };
+      stands = still_stands b h k d can.call.of m none g can.stands;
+      walkable = now b h k d can.call.of m (λ z t. IsWalkable (opening_of b) g t)
+          (walkable_while (opening_of b) h.number g can.call.reading.caller (since b h k d can.call.of m)
+          (known h) (valid_after b h k d can.call.of m) (goes_on_inside b h k d can.call.of m none)
           can.stands can.walkable);
       in_table = can.in_table;
-      holds_none = still_holds_no_lock b h k d can.of m free can.holds_none;
     }
 
 -- so a link before a key stays one
@@ -74,9 +76,9 @@ pub before_after : (b : Board) (g key p : ℕ) (h k : Hand) (d : Action) → IsN
     Makes b h d k → CanSearch b g h → IsLinkBefore (opening_of b) g key p (known h) →
     IsLinkBefore (opening_of b) g key p (known k)
 before_after b g key p h k d none m can before =
-    now b h k d can.of m (λ z t. IsLinkBefore (opening_of b) g key p t)
-    (stay_before (opening_of b) h.number g key p can.reading.caller (since b h k d can.of m)
-    (known h) (valid_after b h k d can.of m) (goes_on_inside b h k d can.of m none) can.stands
+    now b h k d can.call.of m (λ z t. IsLinkBefore (opening_of b) g key p t)
+    (stay_before (opening_of b) h.number g key p can.call.reading.caller (since b h k d can.call.of m)
+    (known h) (valid_after b h k d can.call.of m) (goes_on_inside b h k d can.call.of m none) can.stands
     before)
 
 module _ (b : Board) (g : ℕ) (h k : Hand) (d : Action) (is : IsWalkOf g d) (m : Makes b h d k) where
@@ -117,16 +119,16 @@ leads_on b g before next i k can follows =
     let o = opening_of b in
     let d = load_of_link g before next in
     let t : Execution = event i.number d ∷ follows.acts.0 ++ known i in
-    let valid = valid_after b i k d can.of follows in
+    let valid = valid_after b i k d can.call.of follows in
     let says = link_says o i.number g before next (follows.acts.0 ++ known i) valid.0 in
-    now b i k d can.of follows
+    now b i k d can.call.of follows
     (λ c u. (word o u (link_behind g before) ≡ next) × LeadsOn o c g next u) (
       says.0,
       ⊎_elim (λ (z : next ≡ 0). inl z)
           (λ (z : (j : ℕ) × (role o next t ≡ InBuffer g j)).
           let some = row_some o t g next z.0 valid z.1 in
           inr (z.0, (z.1, link_reaches i.number g before next (follows.acts.0 ++ known i) some)))
-          (says.1 can.reading.caller),
+          (says.1 can.call.reading.caller),
     )
 
 -- a link was loaded on the walk to a key that it stands before
@@ -142,11 +144,11 @@ arrives b g key before next h i k can same since log walks begun behind follows 
     record {
       search = search_on b g i k d is follows can;
       number = follows.number ∙ same;
-      log = log_on b g i k d is follows h can.of log;
+      log = log_on b g i k d is follows h can.call.of log;
       walks = walks_on b g i k d is follows h walks;
-      loaded = just_made b h i k d since same can.of follows;
+      loaded = just_made b h i k d since same can.call.of follows;
       begun = begun d follows;
-      valid = valid_known b i k d can.of follows;
+      valid = valid_known b i k d can.call.of follows;
       leads = leads.0;
       behind = before_after b g key before i k d (no_crossing g d is) follows can behind;
       ahead = leads.1;
@@ -157,7 +159,7 @@ pub sets_out : (b : Board) (g key next : ℕ) (h k : Hand) → CanSearch b g h �
     FollowsLink b h g 0 next k → IsOn b g key 0 next h k
 sets_out b g key next h k can follows =
     arrives b g key 0 next h h k can refl (continues_same (known h)) refl ([], tt, refl)
-    (λ d m. begins b h k d can.of m)
+    (λ d m. begins b h k d can.call.of m)
     (inl refl) follows
 
 -- ---- what the link says ----
@@ -192,7 +194,7 @@ pub is_at_link : (b : Board) (g key before next : ℕ) (h m : Hand) →
     IsOn b g key before next h m → next ≢ 0 → IsAt (opening_of b) m.number next (known m)
 is_at_link b g key before next h m on some =
     record {
-      reading = on.search.reading;
+      reading = on.search.call.reading;
       there = ⊎_elim (λ (z : next ≡ 0). absurd (some z))
           (λ (z : (j : ℕ) × IsReachedRow (opening_of b) m.number g j next (known m)). inr z.1.1)
           on.ahead;
@@ -209,14 +211,14 @@ module _ (b : Board) (g key before next met : ℕ) (h m n : Hand)
   is_there = is_at_link b g key before next h m on some
 
   same : role (opening_of b) next (known n) ≡ role (opening_of b) next (known m)
-  same = same_role b m n (LoadKey next met) on.search.of l tt next is_there
+  same = same_role b m n (LoadKey next met) on.search.call.of l tt next is_there
 
   key_is : reached_row.0 ≡ met
   key_is =
       let told : role_key (role (opening_of b) next (known n)) ≡ Some met =
       ap (λ (z : Execution). role_key (role (opening_of b) next z))
-      (known_is b m n (LoadKey next met) on.search.of l)
-      ∙ (valid_after b m n (LoadKey next met) on.search.of l).0.says
+      (known_is b m n (LoadKey next met) on.search.call.of l)
+      ∙ (valid_after b m n (LoadKey next met) on.search.call.of l).0.says
       in
       some_is (sym (ap role_key (same ∙ reached_row.1.0)) ∙ told)
 
@@ -230,11 +232,11 @@ module _ (b : Board) (g key before next met : ℕ) (h m n : Hand)
   is_reached : IsReachedRow (opening_of b) n.number g met next (known n)
   is_reached = (
     is_still_of,
-    still_reached b m n (LoadKey next met) on.search.of l tt next reached_row.1.1,
+    still_reached b m n (LoadKey next met) on.search.call.of l tt next reached_row.1.1,
   )
 
   is_at : IsAt (opening_of b) n.number next (known n)
-  is_at = still_at b m n (LoadKey next met) on.search.of l tt next is_there
+  is_at = still_at b m n (LoadKey next met) on.search.call.of l tt next is_there
 
   -- the row of the key
   pub found_row : met ≡ key → IsReachedRow (opening_of b) n.number g key next (known n)
@@ -248,7 +250,7 @@ module _ (b : Board) (g key before next met : ℕ) (h m n : Hand)
         moment = known m;
         loaded = on.loaded;
         within = is_within h n (known m) on.begun
-            (goes_on b m n (LoadKey next met) on.search.of l);
+            (goes_on b m n (LoadKey next met) on.search.call.of l);
         absent = empty_from b g key before next h m on key (omega arith) (inr (met, is_of, lt));
         leads = on.leads;
         empty = record {
@@ -276,11 +278,11 @@ module _ (b : Board) (g key before next met : ℕ) (h m n : Hand)
       (search_on b g m n (LoadKey next met) tt l on.search)
       (l.number ∙ on.number)
       (continues_trans (known h) (known m) (known n) (begun_since h (known m) on.begun)
-      (goes_on b m n (LoadKey next met) on.search.of l))
-      (log_on b g m n (LoadKey next met) tt l h on.search.of on.log)
+      (goes_on b m n (LoadKey next met) on.search.call.of l))
+      (log_on b g m n (LoadKey next met) tt l h on.search.call.of on.log)
       (walks_on b g m n (LoadKey next met) tt l h on.walks)
       (λ d q. begun_on h (known n) (known k)
-      (begun_on h (known m) (known n) on.begun (goes_on b m n (LoadKey next met) on.search.of l))
+      (begun_on h (known m) (known n) on.begun (goes_on b m n (LoadKey next met) on.search.call.of l))
       (goes_on b n k d l.of q))
       (inr (met, is_still_of, lt)) follows
 
@@ -296,7 +298,7 @@ left_falls b g key before next met next2 h m n k on some l lt follows =
     let on_k = goes_behind b g key before next met h m n on some l next2 k lt follows in
     let here : role o next (known k) ≡ InBuffer g met =
     same_role b n k (load_of_link g next next2)
-    (search_on b g m n (LoadKey next met) tt l on.search).of follows
+    (search_on b g m n (LoadKey next met) tt l on.search).call.of follows
     (no_crossing g (load_of_link g next next2) (link_is_walk g next next2)) next
     (is_at b g key before next met h m n on some l)
     ∙ is_still_of b g key before next met h m n on some l in

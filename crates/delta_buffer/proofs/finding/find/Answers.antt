@@ -30,7 +30,7 @@ returns-then-met-key c =
       steps = walks_on b c.args.group m n load tt l h on.walks;
       finds = found_row b c.args.group c.args.key c.loop-next.before c.loop-next.next
           c.load_key-met.result h m n on c.loop-next-test.true l c.if-met-key.true;
-      log = log_on b c.args.group m n load tt l h on.search.of on.log;
+      log = log_on b c.args.group m n load tt l h on.search.call.of on.log;
     }
 
 pub returns-then-met-key-2 : goal.returns-then-met-key-2
@@ -48,7 +48,7 @@ returns-then-met-key-2 c =
       steps = walks_on b c.args.group m n load tt l h on.walks;
       finds = found_gap b c.args.group c.args.key c.loop-next.before c.loop-next.next
           c.load_key-met.result h m n on c.loop-next-test.true l c.if-met-key-2.true;
-      log = log_on b c.args.group m n load tt l h on.search.of on.log;
+      log = log_on b c.args.group m n load tt l h on.search.call.of on.log;
     }
 
 pub follow-next-requires-in-loop-next : goal.follow-next-requires-in-loop-next
