@@ -29,7 +29,7 @@ use Rattle.delta_buffer.specs.Searching.{CanSearch}
 use Rattle.record_cell.specs.Reads.{FindsNone}
 use Rattle.point_calls.specs.Lookup.{ComesTo, HasMissed}
 use Rattle.point_calls.specs.PointCalls.{OpensEmpty}
-use Rattle.point_calls.proofs.Knowing.{IsIn, in_first, in_step}
+use Rattle.point_calls.proofs.Knowing.{IsIn, call_is, in_first, in_step}
 
 no_pair : {X : Type 0} {r : ℕ × ℕ} → None ≡ Some r → X
 no_pair e = cc
@@ -101,18 +101,14 @@ pub missed : (b : Board) (start h : Hand) (g key : ℕ) → IsHandOf b start →
 missed b start h g key of i can none own moment within absent =
     let o = opening_of b in
     record {
-      began = of;
-      call = record { of = can.of; reading = can.reading; holds_none = can.holds_none };
-      number = i.number;
-      sees = record {
-        allowed = inl (can.reading, can.stands);
-        true_word = subst (λ (z : ℕ). has_stale_phase z (known h) ≡ false) own
-            (opened_walkable o (known h) i.valid i.built key).1;
-      };
-      exists = can;
-      no_entry = none;
+      call = call_is b start h of i none;
       rows = i.rows;
-      section = i.section;
+      search = can;
+      sees = record {
+        allowed = inl (can.call.reading, can.stands);
+        true_word = subst (λ (z : ℕ). has_stale_phase z (known h) ≡ false) own
+            (opened_walkable o (known h) i.follows.valid i.follows.built key).1;
+      };
       moment = moment;
       within = within;
       absent = absent;

@@ -21,7 +21,7 @@ overwrite-requires-clause-found c =
     let il = in_comes b h l g c.requires.call.of comes in
     let w = c.find.ensures.steps in
     let i = in_walk b g h l w.0 n w.1 w.2 il in
-    let at = found_group b h l n g key c.requires.call.of (group_opened b h l g key comes il.built most) i
+    let at = found_group b h l n g key c.requires.call.of (group_opened b h l g key comes il.follows.built most) i
     c.find.ensures.search (c.find.ensures.log ∙ comes.no_entry) in
     subst (λ (z : Hand). HasFoundRow b z n (record { group = g; place = c.in-Row.place; key = key }))
     (sym c.of-start.ensures)
@@ -40,7 +40,7 @@ link_new-requires-clause-found c =
     let il = in_comes b h l g c.requires.call.of comes in
     let w = c.find.ensures.steps in
     let i = in_walk b g h l w.0 n w.1 w.2 il in
-    let at = found_group b h l n g key c.requires.call.of (group_opened b h l g key comes il.built most) i
+    let at = found_group b h l n g key c.requires.call.of (group_opened b h l g key comes il.follows.built most) i
     c.find.ensures.search (c.find.ensures.log ∙ comes.no_entry) in
     let gap : Gap = record { group = g; before = c.in-Gap.before; next = c.in-Gap.next; key = key } in
     subst (λ (z : Hand). HasFoundGap b z n gap) (sym c.of-start.ensures)
@@ -59,7 +59,7 @@ link_new-requires-clause-spare c =
     let il = in_comes b h l g c.requires.call.of comes in
     let w = c.find.ensures.steps in
     let i = in_walk b g h l w.0 n w.1 w.2 il in
-    let at = found_group b h l n g key c.requires.call.of (group_opened b h l g key comes il.built most) i
+    let at = found_group b h l n g key c.requires.call.of (group_opened b h l g key comes il.follows.built most) i
     c.find.ensures.search (c.find.ensures.log ∙ comes.no_entry) in
     i.rows c.args.spare.now c.requires.spare
 

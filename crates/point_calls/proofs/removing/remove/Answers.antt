@@ -28,14 +28,14 @@ miss-requires c =
     let il = in_comes b h l g c.requires.call.of comes in
     let w = c.find.ensures.steps in
     let ik = in_walk b g h l w.0 k w.1 w.2 il in
-    let own = group_opened b h l g key comes il.built most in
+    let own = group_opened b h l g key comes il.follows.built most in
     let gap = c.in_default.ensures.finds in
     let on = gap.within.5 in
     subst (λ (z : Hand). HasMissed b z k g key) (sym c.of-start.ensures)
     (missed b h k g key c.requires.call.of ik c.find.ensures.search
     (c.find.ensures.log ∙ comes.no_entry) own gap.moment (within_whole b h l k gap.moment il gap.within)
     (gap_absent (opening_of b) gap.moment c.requires.empty
-    (valid_at b gap.moment (known k) on ik.valid) (built_at gap.moment (known k) on ik.built) key g
+    (valid_at b gap.moment (known k) on ik.follows.valid) (built_at gap.moment (known k) on ik.follows.built) key g
     own gap.absent))
 
 pub kill-requires : goal.kill-requires
@@ -121,7 +121,7 @@ miss-requires-in-Gone c =
     let t = c.in-Gone.ensures.tells in
     subst (λ (z : Hand). HasMissed b z k g key) (sym c.of-start.ensures)
     (missed_stone b h n g key c.in-Row.place i can row k s.0 c.in-Gone.word s.1 c.requires.call.of
-    c.requires.empty (t.0 ∙ none) (group_opened b h l g key comes il.built most) t.1)
+    c.requires.empty (t.0 ∙ none) (group_opened b h l g key comes il.follows.built most) t.1)
 
 pub returns-in-Gone-clause-tells : goal.returns-in-Gone-clause-tells
 returns-in-Gone-clause-tells c =
