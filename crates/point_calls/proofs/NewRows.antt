@@ -23,7 +23,6 @@ use Rattle.index_machine.specs.Forms.{Unlocked, state_word}
 use Rattle.index_machine.specs.Places.{first_version}
 use Rattle.index_machine.specs.Words.{link_behind, store_of, word}
 use Rattle.machine_buffers.proofs.Inserting.{link_open}
-use Rattle.index_rule.proofs.BuiltLaws.{groups_as_opened}
 use Rattle.delta_buffer.specs.Inserting.{BelongsUntilLinked, CanInsert, IsPrivateStore, OnlyStores}
 use Rattle.delta_buffer.specs.Searching.{BelongsBetween}
 use Rattle.point_calls.proofs.RowPutting.{group_seen, seen_open}
@@ -50,7 +49,7 @@ use Rattle.point_calls.specs.PointCalls.{OpensEmpty, StoresElsewhere}
 use Rattle.point_calls.specs.Putting.{HasFoundGap, IsMissing, MayLinkIn}
 use Rattle.point_calls.proofs.Knowing.{built_at, call_since, call_step, valid_at, within_on}
 use Rattle.point_calls.proofs.LeftWords.{left_on, row_elsewhere}
-use Rattle.point_calls.proofs.Missing.{gap_absent, no_array}
+use Rattle.point_calls.proofs.Missing.{gap_absent, group_stays, no_array}
 
 -- a step by which the hand does not leave, takes no lock, adds no entry, and stores nothing at the
 -- word
@@ -68,10 +67,12 @@ may_on b start h k gap d quiet m may =
     let o = opening_of b in
     let of = may.search.call.of in
     let on = goes_on b h k d of m in
+    let call = call_step b start h k d quiet.none quiet.keeps of m may.call in
     record {
-      call = call_step b start h k d quiet.none quiet.keeps of m may.call;
+      call = call;
       search = search_after b gap.group h k d quiet.none quiet.free m may.search;
-      own = may.own;
+      own = group_stays o (known h) (known k) may.call.follows.built call.follows.built gap.key
+          gap.group may.own;
       moment = may.moment;
       moment_within = within_on start h k may.moment may.moment_within on;
       absent = may.absent;
@@ -105,11 +106,15 @@ made_there b start h k gap d may m =
 pub is_missing : (b : Board) (start h : Hand) (gap : Gap) → OpensEmpty b →
     MayLinkIn b start h gap → IsMissing b gap.key start h
 is_missing b start h gap empty may =
-    let on = may.moment_within.5 in (
+    let o = opening_of b in
+    let on = may.moment_within.5 in
+    let built = built_at may.moment (known h) on may.call.follows.built in (
       may.moment,
       may.moment_within,
-      gap_absent (opening_of b) may.moment empty (valid_at b may.moment (known h) on may.call.follows.valid)
-          (built_at may.moment (known h) on may.call.follows.built) gap.key gap.group may.own may.absent,
+      gap_absent o may.moment empty (valid_at b may.moment (known h) on may.call.follows.valid) built
+          gap.key gap.group
+          (group_stays o (known h) may.moment may.call.follows.built built gap.key gap.group may.own)
+          may.absent,
     )
 
 -- ---- the gap that was found ----
@@ -170,7 +175,7 @@ belongs_until b start h gap empty may newer valid only none =
     let o = opening_of b in
     let stay = only_inside h.number newer only in
     link_open o h.number gap.group gap.key may.search.call.reading.caller newer [] (known h) valid tt stay
-    may.search.stands (((groups_as_opened o (known h) may.call.follows.built).0 gap.key).0 ∙ may.own)
+    may.search.stands may.own
     (λ a is. no_array o (known h) empty may.call.follows.valid may.call.follows.built gap.group gap.key a is)
     (saw_open_on h.number gap.group newer (known h) stay may.seen) none
 

@@ -11,7 +11,7 @@ use Rattle.word_layout.specs.Words.{PlaceWord}
 use Rattle.index_machine.specs.declared.events.Action.{Action}
 use Rattle.index_machine.specs.declared.events.Action.TheVariants.{LoadPhase, LoadState}
 use Rattle.index_machine.specs.declared.events.Action.TheVariants.{Lock, StoreValue, Unlock}
-use Rattle.index_machine.specs.Openings.{opening_group}
+use Rattle.index_machine.specs.KeyRanges.{group_of}
 use Rattle.index_machine.specs.Reaching.{saw_open, saw_open_after}
 use Rattle.index_machine.specs.Represents.{has_stale_phase}
 use Rattle.index_machine.specs.Rows.{role_key}
@@ -44,7 +44,7 @@ use Rattle.point_calls.specs.PointCalls.{MeetsChange, OpensEmpty}
 use Rattle.point_calls.specs.Putting.{HasFoundGap, HasFoundRow, HasFoundTombstone, IsInGroupOf}
 use Rattle.point_calls.proofs.Knowing.{IsIn, call_is, in_all, in_call, in_step, within_whole}
 use Rattle.point_calls.proofs.LeftWords.{left_on, made_at, made_behind, walked_at}
-use Rattle.point_calls.proofs.Missing.{no_array}
+use Rattle.point_calls.proofs.Missing.{group_opened, group_stays, no_array}
 use Rattle.point_calls.proofs.RowReading.{ready_row}
 
 -- what it knows in the group of the key it knows within its call
@@ -64,7 +64,8 @@ module _ (b : Board) (start h k : Hand) (g key : ℕ) (d : Action) (none : IsNoC
         call = call_is b start k at.call.so_far.began in_k entry;
         rows = in_k.rows;
         search = search_after b g h k d none free m at.search;
-        own = at.own;
+        own = group_stays (opening_of b) (known h) (known k) at.call.follows.built in_k.follows.built
+            key g at.own;
       }
 
   -- and at the row
@@ -108,7 +109,8 @@ pub sees_phase : (b : Board) (start h : Hand) (g key : ℕ) → IsInGroupOf b st
 sees_phase b start h g key at =
     record {
       allowed = inl (at.search.call.reading, at.search.stands);
-      true_word = subst (λ (z : ℕ). has_stale_phase z (known h) ≡ false) at.own
+      true_word = subst (λ (z : ℕ). has_stale_phase z (known h) ≡ false)
+          (group_opened (opening_of b) (known h) at.call.follows.built key g at.own)
           (opened_walkable (opening_of b) (known h) at.call.follows.valid at.call.follows.built key).1;
     }
 
@@ -158,7 +160,7 @@ module _ (b : Board) (start h n : Hand) (g key word : ℕ) (at : IsInGroupOf b s
             since = refl;
             stays = tt;
             stands = group_seen.search.stands;
-            of_key = ((groups_as_opened (opening_of b) (known n) group_seen.call.follows.built).0 key).0 ∙ at.own;
+            of_key = group_seen.own;
           };
           seen = seen_open;
           array = λ a is. no_array (opening_of b) (known n) empty group_seen.call.follows.valid group_seen.call.follows.built g
@@ -203,8 +205,8 @@ module _ (b : Board) (start n : Hand) (g key place : ℕ) (at : IsInGroupOf b st
 
 -- the caller came to the group of the key and walked its buffer
 pub found_group : (b : Board) (start l n : Hand) (g key : ℕ) → IsHandOf b start →
-    opening_group (opening_of b) key ≡ g → IsIn b start n → CanSearch b g n → AddsNoEntry start n →
-    IsInGroupOf b start n g key
+    group_of (opening_of b) key (known n) ≡ g → IsIn b start n → CanSearch b g n →
+    AddsNoEntry start n → IsInGroupOf b start n g key
 found_group b start l n g key of own i can none =
     record {
       call = call_is b start n of i none;

@@ -4,6 +4,7 @@ use Rattle.word_layout.specs.declared.places.Part.TheVariants.{State}
 use Rattle.word_layout.specs.Words.{PlaceWord}
 use Rattle.index_machine.specs.declared.events.Action.TheVariants.{LoadState, LoadValue}
 use Rattle.index_machine.specs.Execution.{Continues}
+use Rattle.index_machine.specs.KeyRanges.{group_of}
 use Rattle.index_machine.specs.LivePlaces.{value_in_map}
 use Rattle.index_machine.specs.Places.{form}
 use Rattle.index_machine.specs.Rows.{InBuffer, role, role_key}
@@ -28,8 +29,7 @@ use Rattle.point_calls.specs.Lookup.{HasMissed}
 use Rattle.point_calls.specs.PointCalls.{IsOfKey, MeetsChange, MeetsLock, OpensEmpty}
 use Rattle.point_calls.proofs.Knowing.{IsIn, built_at, call_is, in_step, valid_at, within_whole}
 use Rattle.point_calls.proofs.LeftWords.{left_on, made_at, made_behind}
-use Rattle.point_calls.proofs.Missing.{missed, stone_absent}
-use Rattle.index_machine.specs.Openings.{opening_group}
+use Rattle.point_calls.proofs.Missing.{group_stays, missed, stone_absent}
 
 -- the caller can act on the row that it found
 pub ready_row : (b : Board) (g key place : ℕ) (h : Hand) → CanSearch b g h →
@@ -88,10 +88,13 @@ module _ (b : Board) (start h : Hand) (g key place : ℕ) (i : IsIn b start h) (
 
     -- a tombstone was found
     pub missed_stone : IsHandOf b start → OpensEmpty b → AddsNoEntry start k →
-        opening_group (opening_of b) key ≡ g → FindsNone b h place k → HasMissed b start k g key
+        group_of (opening_of b) key (known h) ≡ g → FindsNone b h place k → HasMissed b start k g key
     missed_stone of empty none own stone =
         let on : Continues stone.0 (known k) = stone.1.5 in
-        missed b start k g key of in_found search_found none own stone.0
+        missed b start k g key of in_found search_found none
+        (group_stays (opening_of b) (known h) (known k) i.follows.built in_found.follows.built key g
+        own)
+        stone.0
         (within_whole b start h k stone.0 i stone.1)
         (stone_absent b h k g key place empty row.0 stone
         (valid_at b stone.0 (known k) on in_found.follows.valid)

@@ -9,8 +9,8 @@ use Rattle.word_layout.specs.Words.{FreeHead, PlaceWord, address_of}
 use Rattle.index_machine.specs.declared.events.Action.TheVariants.{FailLink, FailPop, LoadFree}
 use Rattle.index_machine.specs.declared.events.Action.TheVariants.{LoadPhase, LoadState}
 use Rattle.index_machine.specs.Execution.{Execution}
+use Rattle.index_machine.specs.KeyRanges.{group_of}
 use Rattle.index_machine.specs.LivePlaces.{value_in_map}
-use Rattle.index_machine.specs.Openings.{opening_group}
 use Rattle.index_machine.specs.Reaching.{saw_open}
 use Rattle.index_machine.specs.Rows.{Holds}
 use Rattle.index_machine.specs.Words.{limits, link_behind}
@@ -41,7 +41,7 @@ pub record IsInGroupOf (b : Board) (start h : Hand) (group key : ℕ) : Type 0 w
   pub call : IsCallSoFar b start h
   pub rows : KeepsRows b start h
   pub search : CanSearch b group h
-  pub own : opening_group (opening_of b) key ≡ group
+  pub own : group_of (opening_of b) key (known h) ≡ group
 
 -- it found the row of the key there
 pub record HasFoundRow (b : Board) (start h : Hand) (found : FoundRow) : Type 0 where
@@ -132,7 +132,7 @@ KeepsSpare old answer new = answer ≢ tried.Done None → IsSome old → IsSome
 pub record MayLinkIn (b : Board) (start h : Hand) (gap : Gap) : Type 0 where
   pub call : IsCallSoFar b start h
   pub search : CanSearch b gap.group h
-  pub own : opening_group (opening_of b) gap.key ≡ gap.group
+  pub own : group_of (opening_of b) gap.key (known h) ≡ gap.group
   pub moment : Execution
   pub moment_within : IsWithin start h moment
   pub absent : look (rows gap.group moment) gap.key ≡ None
