@@ -5,6 +5,7 @@ use Rattle.index_machine.specs.declared.events.Action.TheVariants.{PopFree}
 use Rattle.index_rule.specs.declared.hand.Hand.{Hand}
 use Rattle.index_rule.specs.Hands.{Makes}
 use Rattle.index_rule.specs.OwnRows.{place_of_private}
+use Rattle.point_calls.proofs.Knowing.{call_since}
 use Rattle.point_calls.proofs.LeftWords.{head_elsewhere, left_on, made_at, made_behind}
 use Rattle.point_calls.proofs.NewRows.{is_missing, made_there, may_on}
 use Rattle.point_calls.proofs.linking.own_row.Goals as goal
@@ -116,11 +117,11 @@ returns-in-Raced-clause-answer c =
       record {
         is_address = c.free_head.ensures.address;
         steps = made_behind b h last k (LoadFree x) (FailPop x c.in-Raced.found) FreeHead
-            may2.number may2.search.of
-            (left_on b h one last (LoadFree x) (LoadFreeLink x s.2.0) FreeHead may1.number
-            may1.search.of tt all.1.2
-            (made_at b h n one (LoadFree x) FreeHead c.requires.may.since c.requires.may.number
-            c.requires.may.search.of loads))
+            may2.call.so_far.number may2.search.call.of
+            (left_on b h one last (LoadFree x) (LoadFreeLink x s.2.0) FreeHead may1.call.so_far.number
+            may1.search.call.of tt all.1.2
+            (made_at b h n one (LoadFree x) FreeHead (call_since b h n c.requires.may.call)
+            c.requires.may.call.so_far.number c.requires.may.search.call.of loads))
             all.2;
         differ = s.1;
       },

@@ -11,12 +11,12 @@ returns c =
     let e = c.write_look.ensures in
     record {
       call = call_with_look b start h k c.args.key c.args.found e.written e.number e.hand c.requires.call;
-      number = e.number ∙ c.requires.may.number;
+      number = e.number ∙ c.requires.may.so_far.number;
       section = section_with_look b start h k c.args.key c.args.found e.written e.number
           c.requires.section;
       rows = λ spare has. spare_with_look b start h k c.args.key c.args.found e.written e.number spare
           (c.requires.rows spare has);
       done = refl;
       looks = looked_up b start h k c.args.key c.args.found e.written e.number
-          c.requires.may.no_entry;
+          c.requires.may.so_far.no_entry;
     }

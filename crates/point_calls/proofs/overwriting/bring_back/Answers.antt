@@ -30,7 +30,7 @@ revive-requires-clause-ready c =
     let seen = group_seen b h before n g key c.load_phase.result at m in
     let row = row_seen b h before n g key c.load_phase.result at m place stone.found.row in
     let can = seen.search in
-    let none = seen.no_entry in
+    let none = seen.call.so_far.no_entry in
     let i = is_in b h n g key seen in
     ready_row b g key place n can row
 
@@ -49,7 +49,7 @@ revive-requires-clause-may c =
     let seen = group_seen b h before n g key c.load_phase.result at m in
     let row = row_seen b h before n g key c.load_phase.result at m place stone.found.row in
     let can = seen.search in
-    let none = seen.no_entry in
+    let none = seen.call.so_far.no_entry in
     let i = is_in b h n g key seen in
     may_revive b h before n g key c.load_phase.result at m place c.requires.empty stone.found.row
 
@@ -69,7 +69,7 @@ returns-in-Done-clause-section c =
     let seen = group_seen b h before n g key c.load_phase.result at m in
     let row = row_seen b h before n g key c.load_phase.result at m place stone.found.row in
     let can = seen.search in
-    let none = seen.no_entry in
+    let none = seen.call.so_far.no_entry in
     let i = is_in b h n g key seen in
     (in_revived b h n g key place seen k c.args.value c.in-Done.old c.in-Done.ensures.steps).section
 
@@ -89,7 +89,7 @@ returns-in-Done-clause-rows c =
     let seen = group_seen b h before n g key c.load_phase.result at m in
     let row = row_seen b h before n g key c.load_phase.result at m place stone.found.row in
     let can = seen.search in
-    let none = seen.no_entry in
+    let none = seen.call.so_far.no_entry in
     let i = is_in b h n g key seen in
     (in_revived b h n g key place seen k c.args.value c.in-Done.old c.in-Done.ensures.steps).rows
 
@@ -109,7 +109,7 @@ returns-in-Done-clause-tells c =
     let seen = group_seen b h before n g key c.load_phase.result at m in
     let row = row_seen b h before n g key c.load_phase.result at m place stone.found.row in
     let can = seen.search in
-    let none = seen.no_entry in
+    let none = seen.call.so_far.no_entry in
     let i = is_in b h n g key seen in
     adds_whole b h n k (put_at b n place c.args.value) (Put h.number key c.args.value) c.in-Done.old i none
     (put_is b h n g key place i can row c.args.value) c.in-Done.ensures.tells
@@ -130,7 +130,7 @@ returns-in-Live-clause-section c =
     let seen = group_seen b h before n g key c.load_phase.result at m in
     let row = row_seen b h before n g key c.load_phase.result at m place stone.found.row in
     let can = seen.search in
-    let none = seen.no_entry in
+    let none = seen.call.so_far.no_entry in
     let i = is_in b h n g key seen in
     (in_step b h n k (LoadState place c.in-Live.word) tt tt c.in-Live.ensures.steps.0 i).section
 
@@ -150,7 +150,7 @@ returns-in-Live-clause-rows c =
     let seen = group_seen b h before n g key c.load_phase.result at m in
     let row = row_seen b h before n g key c.load_phase.result at m place stone.found.row in
     let can = seen.search in
-    let none = seen.no_entry in
+    let none = seen.call.so_far.no_entry in
     let i = is_in b h n g key seen in
     (in_step b h n k (LoadState place c.in-Live.word) tt tt c.in-Live.ensures.steps.0 i).rows
 
@@ -170,7 +170,7 @@ returns-in-Live-clause-tells c =
     let seen = group_seen b h before n g key c.load_phase.result at m in
     let row = row_seen b h before n g key c.load_phase.result at m place stone.found.row in
     let can = seen.search in
-    let none = seen.no_entry in
+    let none = seen.call.so_far.no_entry in
     let i = is_in b h n g key seen in
     let s = c.in-Live.ensures.steps in (
       c.in-Live.ensures.tells.0 ∙ none,
@@ -218,7 +218,7 @@ returns-in_default c =
     c.revive.ensures.tells c.in_default.not-Done c.in_default.not-Live in
     let ik = in_refused b h n g key place i seen.search row k w refused in
     let tells = put_tells b h n g key place i seen.search row k c.args.value w c.refused.result
-    seen.no_entry refused c.refused.ensures in
+    seen.call.so_far.no_entry refused c.refused.ensures in
     record {
       call = search rules;
       number = ik.number;

@@ -19,7 +19,7 @@ update-requires c =
     let found = c.requires.found in
     let can = found.group_of.search in
     let row = found.row in
-    let none = found.group_of.no_entry in
+    let none = found.group_of.call.so_far.no_entry in
     let i = is_in b h n g key found.group_of in
     ready_row b g key place n can row
 
@@ -35,7 +35,7 @@ bring_back-requires-clause-found c =
     let found = c.requires.found in
     let can = found.group_of.search in
     let row = found.row in
-    let none = found.group_of.no_entry in
+    let none = found.group_of.call.so_far.no_entry in
     let i = is_in b h n g key found.group_of in
     let s = c.in-Gone.ensures.steps in
     found_stone b h n k c.args.row s.0 c.in-Gone.word found s.1 s.2 (c.in-Gone.ensures.tells.0 ∙ none)
@@ -52,7 +52,7 @@ returns-in-Done-clause-section c =
     let found = c.requires.found in
     let can = found.group_of.search in
     let row = found.row in
-    let none = found.group_of.no_entry in
+    let none = found.group_of.call.so_far.no_entry in
     let i = is_in b h n g key found.group_of in
     (in_done b h n g key place i can row k (put_at b n place c.args.value) c.in-Done.old
     c.in-Done.ensures.steps).section
@@ -69,7 +69,7 @@ returns-in-Done-clause-rows c =
     let found = c.requires.found in
     let can = found.group_of.search in
     let row = found.row in
-    let none = found.group_of.no_entry in
+    let none = found.group_of.call.so_far.no_entry in
     let i = is_in b h n g key found.group_of in
     (in_done b h n g key place i can row k (put_at b n place c.args.value) c.in-Done.old
     c.in-Done.ensures.steps).rows
@@ -86,7 +86,7 @@ returns-in-Done-clause-tells c =
     let found = c.requires.found in
     let can = found.group_of.search in
     let row = found.row in
-    let none = found.group_of.no_entry in
+    let none = found.group_of.call.so_far.no_entry in
     let i = is_in b h n g key found.group_of in
     adds_whole b h n k (put_at b n place c.args.value) (Put h.number key c.args.value) c.in-Done.old i none
     (put_is b h n g key place i can row c.args.value) c.in-Done.ensures.tells
@@ -122,7 +122,7 @@ returns-in_default c =
     c.update.ensures.tells c.in_default.not-Done c.in_default.not-Gone in
     let ik = in_refused b h n g key place i at.search row k w refused in
     let tells = put_tells b h n g key place i at.search row k c.args.value w c.refused.result
-    at.no_entry refused c.refused.ensures in
+    at.call.so_far.no_entry refused c.refused.ensures in
     record {
       call = search rules;
       number = ik.number;
