@@ -3,6 +3,5 @@ pub mod Links
 pub mod Stepping
 pub mod Linking
 pub mod Carrying
-pub mod Entering
 mod KeyCounts
 mod RowWalks

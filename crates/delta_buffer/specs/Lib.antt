@@ -1,4 +1,3 @@
 pub mod Walks
 pub mod Searching
 pub mod Inserting
-pub mod Visits

@@ -9,8 +9,6 @@ mod counting;
 mod finding;
 mod inserting;
 mod laws;
-#[cfg(test)]
-mod tests;
 mod walking;
 
 pub use answers::Found;
