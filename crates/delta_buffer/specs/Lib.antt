@@ -1,3 +1,4 @@
 pub mod Walks
 pub mod Searching
+pub mod Following
 pub mod Inserting
