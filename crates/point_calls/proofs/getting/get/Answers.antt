@@ -10,6 +10,8 @@ use Rattle.point_calls.proofs.Knowing.{in_walk}
 use Rattle.point_calls.proofs.Missing.{group_reached, in_comes, missed_gap}
 use Rattle.point_calls.proofs.RowReading.{in_again, in_found, may_note, meets_change, meets_lock}
 use Rattle.point_calls.proofs.RowReading.{missed_stone, ready_row}
+use Rattle.point_calls.specs.Exchanges.{no_exchange}
+use Rattle.point_calls.proofs.Exchanging.{few_behind, none_before, none_in_read}
 use Rattle.point_calls.proofs.getting.get.Goals as goal
 
 pub miss-requires : goal.miss-requires
@@ -199,3 +201,67 @@ returns-in-Gone-clause-tells c =
     let e = c.miss-in-Gone.ensures in
     subst (λ (z : Tried (Option ℕ)). GetTells b c.args.key c.args.hand.now z k) (sym e.done)
     (subst (λ (z : Hand). LooksUp b c.args.key z None k) c.of-start.ensures e.looks)
+
+pub returns-in_default-clause-exchanges : goal.returns-in_default-clause-exchanges
+returns-in_default-clause-exchanges c =
+    let b = c.args.board.now in
+    let h = c.args.hand.now in
+    let l = c.locate-group.new.hand in
+    let n = c.find.new.hand in
+    let g : ℕ = c.locate-group.result in
+    let comes = c.locate-group.ensures.comes in
+    let f = c.find.ensures in
+    few_behind no_exchange h n c.miss.new.hand (none_before b h l n g c.requires.call.of comes f.steps)
+    c.miss.ensures.exchanges
+
+pub returns-in-Live-clause-exchanges : goal.returns-in-Live-clause-exchanges
+returns-in-Live-clause-exchanges c =
+    let b = c.args.board.now in
+    let h = c.args.hand.now in
+    let l = c.locate-group.new.hand in
+    let n = c.find.new.hand in
+    let g : ℕ = c.locate-group.result in
+    let comes = c.locate-group.ensures.comes in
+    let f = c.find.ensures in
+    few_behind no_exchange h c.read.new.hand c.look.new.hand
+    (none_in_read b h l n g c.in-Row.place c.read.result c.read.new.hand c.requires.call.of comes
+    f.steps f.search.call.of c.read.ensures.steps)
+    c.look.ensures.exchanges
+
+pub returns-in-Gone-clause-exchanges : goal.returns-in-Gone-clause-exchanges
+returns-in-Gone-clause-exchanges c =
+    let b = c.args.board.now in
+    let h = c.args.hand.now in
+    let l = c.locate-group.new.hand in
+    let n = c.find.new.hand in
+    let g : ℕ = c.locate-group.result in
+    let comes = c.locate-group.ensures.comes in
+    let f = c.find.ensures in
+    few_behind no_exchange h c.read.new.hand c.miss-in-Gone.new.hand
+    (none_in_read b h l n g c.in-Row.place c.read.result c.read.new.hand c.requires.call.of comes
+    f.steps f.search.call.of c.read.ensures.steps)
+    c.miss-in-Gone.ensures.exchanges
+
+pub returns-in-Locked-clause-exchanges : goal.returns-in-Locked-clause-exchanges
+returns-in-Locked-clause-exchanges c =
+    let b = c.args.board.now in
+    let h = c.args.hand.now in
+    let l = c.locate-group.new.hand in
+    let n = c.find.new.hand in
+    let g : ℕ = c.locate-group.result in
+    let comes = c.locate-group.ensures.comes in
+    let f = c.find.ensures in
+    none_in_read b h l n g c.in-Row.place c.read.result c.read.new.hand c.requires.call.of comes
+    f.steps f.search.call.of c.read.ensures.steps
+
+pub returns-clause-exchanges : goal.returns-clause-exchanges
+returns-clause-exchanges c =
+    let b = c.args.board.now in
+    let h = c.args.hand.now in
+    let l = c.locate-group.new.hand in
+    let n = c.find.new.hand in
+    let g : ℕ = c.locate-group.result in
+    let comes = c.locate-group.ensures.comes in
+    let f = c.find.ensures in
+    none_in_read b h l n g c.in-Row.place c.read.result c.read.new.hand c.requires.call.of comes
+    f.steps f.search.call.of c.read.ensures.steps

@@ -1,4 +1,4 @@
-use Rattle.std.proofs.Common.{◌≡◌, ℕ, ◌<◌, ◌^◌, None, inl, inr, ⊎_elim, Option, sym, ap, ◌∙◌, subst, arith}
+use Rattle.std.proofs.Common.{◌≡◌, ℕ, ◌<◌, ◌^◌, None, inl, inr, ⊎_elim, Option, refl, sym, ap, ◌∙◌, subst, arith}
 use Rattle.map_model.specs.declared.entries.Change.TheVariants.{Put}
 use Rattle.word_layout.specs.declared.places.Part.TheVariants.{Link}
 use Rattle.index_machine.specs.declared.events.Action.TheVariants.{FailLink, LinkRow, LoadPhase}
@@ -19,6 +19,8 @@ use Rattle.point_calls.proofs.LeftWords.{made_behind}
 use Rattle.point_calls.proofs.NewRows.{adds_there, can_insert, holds_none_linked, may_filled}
 use Rattle.point_calls.proofs.NewRows.{may_link, may_stored, own_elsewhere}
 use Rattle.point_calls.proofs.RowPutting.{is_open, sees_phase}
+use Rattle.point_calls.proofs.Exchanging.{fill_makes_none, head_makes_two, insert_makes_one}
+use Rattle.point_calls.proofs.Exchanging.{none_by, none_makes_two, row_makes_two}
 use Rattle.point_calls.proofs.linking.link_new.Goals as goal
 
 pub load_phase-word-requires-clause-may : goal.load_phase-word-requires-clause-may
@@ -240,3 +242,57 @@ returns-in-Done-clause-spare c =
     subst (λ (z : Option PrivateRow). HasSpare b k2 z) (sym c.own_row.ensures.gone)
     (holds_none_linked b mid k2 gap.group row gap.before gap.next (change_of b k row) may2.search.call.of
     may2.search.call.reading.caller all.2)
+
+pub returns-then-word-clause-exchanges : goal.returns-then-word-clause-exchanges
+returns-then-word-clause-exchanges c =
+    let b = c.args.board.now in
+    let h = c.args.hand.now in
+    let n = c.load_phase-word.new.hand in
+    let m = c.load_phase-word.ensures in
+    let loads = none_by b h (LoadPhase c.args.gap.group c.load_phase-word.result) n
+    c.requires.found.group_of.search.call.of m refl refl refl in
+    none_makes_two h n loads
+
+pub returns-in-Err-clause-exchanges : goal.returns-in-Err-clause-exchanges
+returns-in-Err-clause-exchanges c =
+    let b = c.args.board.now in
+    let h = c.args.hand.now in
+    let n = c.load_phase-word.new.hand in
+    let m = c.load_phase-word.ensures in
+    let loads = none_by b h (LoadPhase c.args.gap.group c.load_phase-word.result) n
+    c.requires.found.group_of.search.call.of m refl refl refl in
+    head_makes_two h n c.own_row.new.hand loads c.own_row.ensures.exchanges
+
+pub returns-in-Done-clause-exchanges : goal.returns-in-Done-clause-exchanges
+returns-in-Done-clause-exchanges c =
+    let b = c.args.board.now in
+    let h = c.args.hand.now in
+    let n = c.load_phase-word.new.hand in
+    let m = c.load_phase-word.ensures in
+    let loads = none_by b h (LoadPhase c.args.gap.group c.load_phase-word.result) n
+    c.requires.found.group_of.search.call.of m refl refl refl in
+    let r = c.own_row.new.hand in
+    let k = c.fill.new.hand in
+    let gap = c.args.gap in
+    row_makes_two h n r k c.insert.new.hand loads c.own_row.ensures.exchanges
+    (fill_makes_none b r (place_of_private c.in-Ok.row) gap.key c.args.value k
+    c.own_row.ensures.may.search.call.of c.fill.ensures.filled)
+    (insert_makes_one b k gap.group (place_of_private c.fill.new.row) gap.before gap.next
+    c.insert.result c.insert.new.hand c.fill.ensures.hand c.insert.ensures.steps)
+
+pub returns-in-Raced-clause-exchanges : goal.returns-in-Raced-clause-exchanges
+returns-in-Raced-clause-exchanges c =
+    let b = c.args.board.now in
+    let h = c.args.hand.now in
+    let n = c.load_phase-word.new.hand in
+    let m = c.load_phase-word.ensures in
+    let loads = none_by b h (LoadPhase c.args.gap.group c.load_phase-word.result) n
+    c.requires.found.group_of.search.call.of m refl refl refl in
+    let r = c.own_row.new.hand in
+    let k = c.fill.new.hand in
+    let gap = c.args.gap in
+    row_makes_two h n r k c.insert.new.hand loads c.own_row.ensures.exchanges
+    (fill_makes_none b r (place_of_private c.in-Ok.row) gap.key c.args.value k
+    c.own_row.ensures.may.search.call.of c.fill.ensures.filled)
+    (insert_makes_one b k gap.group (place_of_private c.fill.new.row) gap.before gap.next
+    c.insert.result c.insert.new.hand c.fill.ensures.hand c.insert.ensures.steps)

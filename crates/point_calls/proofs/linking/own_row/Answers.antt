@@ -8,6 +8,7 @@ use Rattle.index_rule.specs.OwnRows.{place_of_private}
 use Rattle.point_calls.proofs.Knowing.{call_since}
 use Rattle.point_calls.proofs.LeftWords.{head_elsewhere, left_on, made_at, made_behind}
 use Rattle.point_calls.proofs.NewRows.{is_missing, made_there, may_on}
+use Rattle.point_calls.proofs.Exchanging.{take_makes_one}
 use Rattle.point_calls.proofs.linking.own_row.Goals as goal
 
 pub returns-in-Row-clause-may : goal.returns-in-Row-clause-may
@@ -126,3 +127,18 @@ returns-in-Raced-clause-answer c =
         differ = s.1;
       },
     )
+
+pub returns-in-Row-clause-exchanges : goal.returns-in-Row-clause-exchanges
+returns-in-Row-clause-exchanges c =
+    take_makes_one c.args.board.now c.args.hand.now c.take-in-None.result c.take-in-None.new.hand
+    c.requires.may.search.call.of c.take-in-None.ensures.steps
+
+pub returns-in-Empty-clause-exchanges : goal.returns-in-Empty-clause-exchanges
+returns-in-Empty-clause-exchanges c =
+    take_makes_one c.args.board.now c.args.hand.now c.take-in-None.result c.take-in-None.new.hand
+    c.requires.may.search.call.of c.take-in-None.ensures.steps
+
+pub returns-in-Raced-clause-exchanges : goal.returns-in-Raced-clause-exchanges
+returns-in-Raced-clause-exchanges c =
+    take_makes_one c.args.board.now c.args.hand.now c.take-in-None.result c.take-in-None.new.hand
+    c.requires.may.search.call.of c.take-in-None.ensures.steps

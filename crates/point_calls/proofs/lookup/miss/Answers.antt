@@ -2,6 +2,8 @@ use Rattle.std.proofs.Common.{refl}
 use Rattle.index_machine.specs.declared.events.Action.TheVariants.{LoadPhase}
 use Rattle.index_rule.proofs.Calls.{goes_on}
 use Rattle.point_calls.proofs.Knowing.{call_on, call_step, spare_on, within_on}
+use Rattle.point_calls.specs.Exchanges.{no_exchange}
+use Rattle.point_calls.proofs.Exchanging.{few_behind, none_by}
 use Rattle.point_calls.proofs.lookup.miss.Goals as goal
 
 pub look-requires : goal.look-requires
@@ -28,3 +30,12 @@ look-requires c =
         value = r.absent;
       };
     }
+
+pub returns-clause-exchanges : goal.returns-clause-exchanges
+returns-clause-exchanges c =
+    let h = c.args.hand.now in
+    let n = c.load_phase.new.hand in
+    few_behind no_exchange h n c.look.new.hand
+    (none_by c.args.board.now h (LoadPhase c.args.group c.load_phase.result) n
+    c.requires.search.call.of c.load_phase.ensures refl refl refl)
+    c.look.ensures.exchanges

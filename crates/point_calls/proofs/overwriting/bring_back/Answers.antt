@@ -1,6 +1,6 @@
-use Rattle.std.proofs.Common.{ℕ, rules, ◌∙◌}
+use Rattle.std.proofs.Common.{ℕ, refl, rules, ◌∙◌}
 use Rattle.map_model.specs.declared.entries.Change.TheVariants.{Put}
-use Rattle.index_machine.specs.declared.events.Action.TheVariants.{LoadState}
+use Rattle.index_machine.specs.declared.events.Action.TheVariants.{LoadPhase, LoadState}
 use Rattle.record_cell.specs.Writes.{put_at}
 use Rattle.point_calls.proofs.Knowing.{adds_whole, in_step}
 use Rattle.point_calls.proofs.RowChanging.{put_is}
@@ -8,6 +8,8 @@ use Rattle.point_calls.proofs.RowReading.{ready_row}
 use Rattle.point_calls.proofs.RowPutting.{group_seen, in_revived, is_in, may_revive}
 use Rattle.point_calls.proofs.RowPutting.{row_seen, sees_phase, was_alive}
 use Rattle.point_calls.proofs.Refusals.{in_refused, is_refusal, put_tells, revival_refused}
+use Rattle.point_calls.specs.Exchanges.{one_lock}
+use Rattle.point_calls.proofs.Exchanging.{few_behind, none_by, revival_makes_one}
 use Rattle.point_calls.proofs.overwriting.bring_back.Goals as goal
 
 pub load_phase-requires-clause-may : goal.load_phase-requires-clause-may
@@ -223,7 +225,34 @@ returns-in_default c =
       call = search rules;
       number = ik.number;
       section = ik.section;
+      exchanges = few_behind one_lock before n k
+          (none_by b before (LoadPhase g c.load_phase.result) n at.search.call.of m refl refl refl)
+          (revival_makes_one b n place c.args.value w k m.of c.revive.ensures.steps);
       rows = ik.rows;
       tells = tells;
       not_full = search rules;
     }
+
+pub returns-in-Done-clause-exchanges : goal.returns-in-Done-clause-exchanges
+returns-in-Done-clause-exchanges c =
+    let b = c.args.board.now in
+    let before = c.args.hand.now in
+    let n = c.load_phase.new.hand in
+    let m = c.load_phase.ensures in
+    few_behind one_lock before n c.revive.new.hand
+    (none_by b before (LoadPhase c.args.row.group c.load_phase.result) n
+    c.requires.found.found.group_of.search.call.of m refl refl refl)
+    (revival_makes_one b n c.args.row.place c.args.value c.revive.result c.revive.new.hand m.of
+    c.revive.ensures.steps)
+
+pub returns-in-Live-clause-exchanges : goal.returns-in-Live-clause-exchanges
+returns-in-Live-clause-exchanges c =
+    let b = c.args.board.now in
+    let before = c.args.hand.now in
+    let n = c.load_phase.new.hand in
+    let m = c.load_phase.ensures in
+    few_behind one_lock before n c.revive.new.hand
+    (none_by b before (LoadPhase c.args.row.group c.load_phase.result) n
+    c.requires.found.found.group_of.search.call.of m refl refl refl)
+    (revival_makes_one b n c.args.row.place c.args.value c.revive.result c.revive.new.hand m.of
+    c.revive.ensures.steps)

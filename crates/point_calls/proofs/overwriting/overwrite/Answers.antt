@@ -6,6 +6,8 @@ use Rattle.point_calls.proofs.RowChanging.{in_done, put_is}
 use Rattle.point_calls.proofs.RowReading.{ready_row}
 use Rattle.point_calls.proofs.RowPutting.{found_stone, is_in}
 use Rattle.point_calls.proofs.Refusals.{in_refused, is_refusal, put_tells, write_refused}
+use Rattle.point_calls.specs.Exchanges.{one_lock}
+use Rattle.point_calls.proofs.Exchanging.{few_behind, gone_makes_none, write_makes_one}
 use Rattle.point_calls.proofs.overwriting.overwrite.Goals as goal
 
 pub update-requires : goal.update-requires
@@ -127,7 +129,28 @@ returns-in_default c =
       call = search rules;
       number = ik.number;
       section = ik.section;
+      exchanges = write_makes_one b n place (put_at b n place c.args.value) w k at.search.call.of
+          c.update.ensures.steps;
       rows = ik.rows;
       tells = tells;
       not_full = search rules;
     }
+
+pub returns-in-Done-clause-exchanges : goal.returns-in-Done-clause-exchanges
+returns-in-Done-clause-exchanges c =
+    let b = c.args.board.now in
+    let n = c.args.hand.now in
+    let place : ℕ = c.args.row.place in
+    write_makes_one b n place (put_at b n place c.args.value) c.update.result c.update.new.hand
+    c.requires.found.group_of.search.call.of c.update.ensures.steps
+
+pub returns-in-Gone-clause-exchanges : goal.returns-in-Gone-clause-exchanges
+returns-in-Gone-clause-exchanges c =
+    let b = c.args.board.now in
+    let n = c.args.hand.now in
+    let k = c.update.new.hand in
+    let place : ℕ = c.args.row.place in
+    few_behind one_lock n k c.bring_back.new.hand
+    (gone_makes_none b n place (put_at b n place c.args.value) c.in-Gone.word k
+    c.requires.found.group_of.search.call.of c.in-Gone.ensures.steps)
+    c.bring_back.ensures.exchanges

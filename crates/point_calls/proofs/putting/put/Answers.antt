@@ -6,6 +6,7 @@ use Rattle.point_calls.specs.Putting.{HasFoundGap, HasFoundRow}
 use Rattle.point_calls.proofs.Knowing.{in_walk}
 use Rattle.point_calls.proofs.Missing.{group_reached, in_comes}
 use Rattle.point_calls.proofs.RowPutting.{found_gap, found_group}
+use Rattle.point_calls.proofs.Exchanging.{lock_in_put, none_before, row_in_put}
 use Rattle.point_calls.proofs.putting.put.Goals as goal
 
 pub overwrite-requires-clause-found : goal.overwrite-requires-clause-found
@@ -61,3 +62,27 @@ link_new-requires-clause-spare c =
 
 pub returns-clause-full : goal.returns-clause-full
 returns-clause-full c = λ full. absurd (c.overwrite.ensures.not_full full)
+
+pub returns-in-Gap-clause-exchanges : goal.returns-in-Gap-clause-exchanges
+returns-in-Gap-clause-exchanges c =
+    let b = c.args.board.now in
+    let h = c.args.hand.now in
+    let l = c.locate-group.new.hand in
+    let n = c.find.new.hand in
+    let g : ℕ = c.locate-group.result in
+    let comes = c.locate-group.ensures.comes in
+    let f = c.find.ensures in
+    row_in_put h n c.link_new.new.hand (none_before b h l n g c.requires.call.of comes f.steps)
+    c.link_new.ensures.exchanges
+
+pub returns-clause-exchanges : goal.returns-clause-exchanges
+returns-clause-exchanges c =
+    let b = c.args.board.now in
+    let h = c.args.hand.now in
+    let l = c.locate-group.new.hand in
+    let n = c.find.new.hand in
+    let g : ℕ = c.locate-group.result in
+    let comes = c.locate-group.ensures.comes in
+    let f = c.find.ensures in
+    lock_in_put h n c.overwrite.new.hand (none_before b h l n g c.requires.call.of comes f.steps)
+    c.overwrite.ensures.exchanges

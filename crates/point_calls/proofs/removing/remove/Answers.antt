@@ -12,6 +12,9 @@ use Rattle.point_calls.proofs.RowChanging.{in_done}
 use Rattle.point_calls.proofs.RowChanging.{removed_tells}
 use Rattle.point_calls.proofs.RowReading.{missed_stone, ready_row}
 use Rattle.point_calls.proofs.Refusals.{in_refused, is_refusal, remove_tells, write_refused}
+use Rattle.point_calls.specs.Exchanges.{no_exchange, one_lock}
+use Rattle.point_calls.proofs.Exchanging.{few_before, few_behind, lock_or_none, none_before}
+use Rattle.point_calls.proofs.Exchanging.{write_makes_one}
 use Rattle.point_calls.proofs.removing.remove.Goals as goal
 
 pub miss-requires : goal.miss-requires
@@ -161,5 +164,49 @@ returns c =
       number = ik.number;
       section = ik.section;
       rows = ik.rows;
+      exchanges = few_behind one_lock h n k (none_before b h l n g c.requires.call.of comes w)
+          (write_makes_one b n place (remove_at b n place) c.kill.result k can.call.of
+          c.kill.ensures.steps);
       tells = tells;
     }
+
+pub returns-in_default-clause-exchanges : goal.returns-in_default-clause-exchanges
+returns-in_default-clause-exchanges c =
+    let b = c.args.board.now in
+    let h = c.args.hand.now in
+    let l = c.locate-group.new.hand in
+    let n = c.find.new.hand in
+    let g : ℕ = c.locate-group.result in
+    let comes = c.locate-group.ensures.comes in
+    let f = c.find.ensures in
+    lock_or_none h c.miss.new.hand
+    (few_behind no_exchange h n c.miss.new.hand (none_before b h l n g c.requires.call.of comes f.steps)
+    c.miss.ensures.exchanges)
+
+pub returns-in-Done-clause-exchanges : goal.returns-in-Done-clause-exchanges
+returns-in-Done-clause-exchanges c =
+    let b = c.args.board.now in
+    let h = c.args.hand.now in
+    let l = c.locate-group.new.hand in
+    let n = c.find.new.hand in
+    let g : ℕ = c.locate-group.result in
+    let comes = c.locate-group.ensures.comes in
+    let f = c.find.ensures in
+    few_behind one_lock h n c.kill.new.hand (none_before b h l n g c.requires.call.of comes f.steps)
+    (write_makes_one b n c.in-Row.place (remove_at b n c.in-Row.place) c.kill.result c.kill.new.hand
+    f.search.call.of c.kill.ensures.steps)
+
+pub returns-in-Gone-clause-exchanges : goal.returns-in-Gone-clause-exchanges
+returns-in-Gone-clause-exchanges c =
+    let b = c.args.board.now in
+    let h = c.args.hand.now in
+    let l = c.locate-group.new.hand in
+    let n = c.find.new.hand in
+    let g : ℕ = c.locate-group.result in
+    let comes = c.locate-group.ensures.comes in
+    let f = c.find.ensures in
+    few_behind one_lock h n c.miss-in-Gone.new.hand (none_before b h l n g c.requires.call.of comes f.steps)
+    (few_before one_lock n c.kill.new.hand c.miss-in-Gone.new.hand
+    (write_makes_one b n c.in-Row.place (remove_at b n c.in-Row.place) c.kill.result c.kill.new.hand
+    f.search.call.of c.kill.ensures.steps)
+    c.miss-in-Gone.ensures.exchanges)
