@@ -1,8 +1,8 @@
 pub mod CallSteps
 pub mod Links
+pub mod Following
 pub mod Stepping
 pub mod Linking
 pub mod Carrying
-pub mod Entering
 mod KeyCounts
 mod RowWalks

@@ -122,26 +122,26 @@ module _ (b : Board) (g place before next : ℕ) (h n : Hand) (can : CanSearch b
     (may : CanInsert (opening_of b) h.number g place before next (known h))
     (m : Makes b h (StorePrivate place Link next) n) where
   key_kept : key_in (opening_of b) place (known n) ≡ key_in (opening_of b) place (known h)
-  key_kept = other_word b h n place Link next can.of m may.filled.held Key (λ z. omega (arith, z))
+  key_kept = other_word b h n place Link next can.call.of m may.filled.held Key (λ z. omega (arith, z))
 
   value_kept : word (opening_of b) (known n) (PlaceWord place Value)
       ≡ word (opening_of b) (known h) (PlaceWord place Value)
   value_kept =
-      other_word b h n place Link next can.of m may.filled.held Value (λ z. omega (arith, z))
+      other_word b h n place Link next can.call.of m may.filled.held Value (λ z. omega (arith, z))
 
   state_kept : word (opening_of b) (known n) (PlaceWord place State)
       ≡ word (opening_of b) (known h) (PlaceWord place State)
   state_kept =
-      other_word b h n place Link next can.of m may.filled.held State (λ z. omega (arith, z))
+      other_word b h n place Link next can.call.of m may.filled.held State (λ z. omega (arith, z))
 
   filled_on : IsFilled (opening_of b) n.number place next (known n)
   filled_on =
       record {
-        held = still_holds b h n (StorePrivate place Link next) can.of m tt place may.filled.held;
+        held = still_holds b h n (StorePrivate place Link next) can.call.of m tt place may.filled.held;
         new_word = state_kept ∙ (may.filled.new_word
             ∙ ap (λ (x : ℕ). state_word (Unlocked (first_version (opening_of b)) false x))
             (sym value_kept));
-        link_word = stored_word b h n place Link next can.of m may.filled.held;
+        link_word = stored_word b h n place Link next can.call.of m may.filled.held;
       }
 
   change_kept : change_of b n place ≡ change_of b h place
@@ -152,13 +152,13 @@ module _ (b : Board) (g place before next : ℕ) (h n : Hand) (can : CanSearch b
       let o = opening_of b in
       let d = StorePrivate place Link next in
       let key : ℕ = key_in o place (known h) in
-      now b h n d can.of m (λ z t. IsBehindKey o g key next t)
+      now b h n d can.call.of m (λ z t. IsBehindKey o g key next t)
       (⊎_elim (λ (z : next ≡ 0). inl z)
       (λ (z : (j : ℕ) × (role o next (known h) ≡ InBuffer g j) × (key < j)).
       inr (
         z.0,
-        place_on o h.number g can.reading.caller next z.0 (since b h n d can.of m) (known h)
-            (valid_after b h n d can.of m) (goes_on_inside b h n d can.of m tt) can.stands
+        place_on o h.number g can.call.reading.caller next z.0 (since b h n d can.call.of m) (known h)
+            (valid_after b h n d can.call.of m) (goes_on_inside b h n d can.call.of m tt) can.stands
             (inr z.1)
             ∙ z.1,
         z.2,
@@ -171,15 +171,15 @@ module _ (b : Board) (g place before next : ℕ) (h n : Hand) (can : CanSearch b
       let o = opening_of b in
       let d = StorePrivate place Link next in
       let key : ℕ = key_in o place (known h) in
-      let s : Execution = since b h n d can.of m in
-      now b h n d can.of m (λ z t. BelongsWhileAbsent o z g key t)
+      let s : Execution = since b h n d can.call.of m in
+      now b h n d can.call.of m (λ z t. BelongsWhileAbsent o z g key t)
       (λ newer valid out gap.
       let whole : (newer ++ s) ++ known h ≡ newer ++ (s ++ known h) = append_assoc newer s (known h)
       in
       subst (λ (t : Execution). IsBufferFor o key g t × (live_place o key t ≡ None)) whole
       (may.belongs (newer ++ s) (subst (Valid o) (sym whole) valid)
       (only_joined h.number newer s out
-      ((λ _. tt), only_own h.number m.acts.0 (others_only b h n d can.of m)))
+      ((λ _. tt), only_own h.number m.acts.0 (others_only b h n d can.call.of m)))
       (subst (λ (t : Execution). look (rows g t) key ≡ None) (sym whole) gap)))
 
   pub may_insert_row : MayInsertRow (opening_of b) n.number g place before next (known n)
@@ -188,12 +188,12 @@ module _ (b : Board) (g place before next : ℕ) (h n : Hand) (can : CanSearch b
       let d = StorePrivate place Link next in
       let on = search_after b g h n d tt (λ z. z) m can in
       record {
-        reading = on.reading;
+        reading = on.call.reading;
         stands = on.stands;
         walkable = on.walkable;
-        permission = now b h n d can.of m (λ z t. MayInsertInto z g t)
-            (permission_while o h.number g can.reading.caller (since b h n d can.of m) (known h)
-            (valid_after b h n d can.of m) (goes_on_inside b h n d can.of m tt) may.permission);
+        permission = now b h n d can.call.of m (λ z t. MayInsertInto z g t)
+            (permission_while o h.number g can.call.reading.caller (since b h n d can.call.of m) (known h)
+            (valid_after b h n d can.call.of m) (goes_on_inside b h n d can.call.of m tt) may.permission);
         filled = filled_on;
         behind = subst (λ (x : ℕ). IsLinkBefore o g x before (known n)) (sym key_kept)
             (before_after b g (key_in o place (known h)) before h n d tt m can may.between.0);
@@ -234,14 +234,14 @@ module _ (b : Board) (g place before next : ℕ) (h n : Hand) (can : CanSearch b
           let d = LinkRow g place (change_of b h place) before next in (
             moment,
             is_within h k moment
-                (begun_on h (known n) moment (begins b h n s can.of m) (up_to b n k d m.of l))
+                (begun_on h (known n) moment (begins b h n s can.call.of m) (up_to b n k d m.of l))
                 (from_there b n k d m.of l),
             was_absent,
             log_is b n k d m.of l
                 ∙ (ap (λ (old : Option ℕ). Made (length (history moment)) (change_of b h place) old
                 ∷ (view n).log) was_absent
                 ∙ ap (λ (log : Log). Made (length (history moment)) (change_of b h place) None
-                ∷ log) (no_entry b h n s can.of m (λ o t log. refl))),
+                ∷ log) (no_entry b h n s can.call.of m (λ o t log. refl))),
           )
 
       pub done_tells : InsertTells b h g place next linked.Done k
@@ -278,7 +278,7 @@ module _ (b : Board) (g place before next : ℕ) (h n : Hand) (can : CanSearch b
       pub raced_log : AddsNoEntry h k
       raced_log =
           no_entry b n k (FailLink g before next found) m.of l (λ o t log. refl)
-          ∙ no_entry b h n (StorePrivate place Link next) can.of m (λ o t log. refl)
+          ∙ no_entry b h n (StorePrivate place Link next) can.call.of m (λ o t log. refl)
 
 -- ---- the answers ----
 

@@ -39,7 +39,7 @@ module _ (b : Board) (h k : Hand) (news : Execution) (m : Heeds b h news k) wher
       onward (λ n t. crossings n t ≡ crossings h.number (known h))
       (crossings_on h.number others (known h) m.own.2)
 
-  heeds_outside : IsOutside h.number (known h) → IsOutside k.number (known k)
+  pub heeds_outside : IsOutside h.number (known h) → IsOutside k.number (known k)
   heeds_outside outside = ap (λ (z : ℕ). z % 2) heeds_crossings ∙ outside
 
   pub heeds_may_enter : MayEnter (opening_of b) h.number (known h) →

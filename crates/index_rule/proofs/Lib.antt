@@ -6,6 +6,7 @@ pub mod Looking
 pub mod Seats
 pub mod Telling
 pub mod Opens
+pub mod NewHands
 pub mod StepKinds
 pub mod EpochSteps
 pub mod Laid

@@ -1,5 +1,5 @@
 -- Where a call stands: what its hand may rely on, and what the call has done so far.
-use Rattle.std.specs.Prelude.{◌≡◌, ℕ}
+use Rattle.std.specs.Prelude.{◌≡◌}
 use Rattle.index_machine.specs.RecordConditions.{HoldsNoLock}
 use Rattle.index_machine.specs.Sections.{IsReading}
 use Rattle.index_rule.specs.declared.board.Board.{Board}

@@ -12,7 +12,7 @@ use Rattle.word_layout.specs.Words.{Word, PlaceWord, IsWord, word_named}
 use Rattle.index_machine.specs.Words.{limits}
 use Rattle.index_rule.specs.declared.board.Board.{Board}
 use Rattle.index_rule.specs.declared.hand.Hand.{Hand}
-use Rattle.index_rule.specs.Hands.{IsHandOf, opening_of, view}
+use Rattle.index_rule.specs.Hands.{IsHandOf, known, opening_of, view}
 use Rattle.index_rule.specs.Seats.{new_hand}
 
 -- each of the first rows, so many, links to the next of them, and no other word changed
@@ -52,3 +52,9 @@ AreNewHands b number (h ∷ hs) =
 pub record HasNewHands (b : Board) (hands : List Hand) : Type 0 where
   pub many : length hands ≡ (limits (opening_of b)).callers + 1
   pub new : AreNewHands b 0 hands
+
+-- the hand with this number, before its first step
+pub record IsNew (b : Board) (number : ℕ) (h : Hand) : Type 0 where
+  pub of : IsHandOf b h
+  pub numbered : h.number ≡ number
+  pub first : known h ≡ []

@@ -23,21 +23,23 @@ use Rattle.index_rule.specs.declared.hand.Hand.{Hand}
 use Rattle.index_rule.specs.declared.rows.PrivateRow.{PrivateRow}
 use Rattle.index_rule.specs.declared.view.View.{View}
 use Rattle.index_rule.specs.Built.{AreBuilt}
-use Rattle.index_rule.specs.Hands.{IsHandOf, Makes, MakesAll, known, opening_of}
+use Rattle.index_rule.specs.Hands.{IsHandOf, Makes, MakesAll, known, opening_of, view}
 use Rattle.index_rule.specs.Looks.{AddsLook}
 use Rattle.index_rule.specs.Moments.{AddsChange, AddsNoEntry, IsBetween, IsWithin}
 use Rattle.index_rule.specs.OwnRows.{place_of_private}
-use Rattle.index_rule.proofs.Calls.{HasBegun, begins, begun_on, goes_on}
+use Rattle.index_rule.specs.Rule.{Follows}
+use Rattle.index_rule.proofs.Calls.{HasBegun, begins, begun_on, goes_on, within_end}
 use Rattle.index_rule.proofs.Logging.{built_before}
+use Rattle.index_rule.proofs.RecordReading.{KeepsLog, no_entry}
 use Rattle.index_rule.proofs.RecordStepping.{still_inside}
-use Rattle.index_rule.proofs.Stepping.{built_known, crossings_is, still_holds}
+use Rattle.index_rule.proofs.Stepping.{crossings_is, still_holds}
 use Rattle.index_rule.proofs.Stepping.{still_holds_no_lock}
-use Rattle.index_rule.proofs.Stepping.{still_holds_none, valid_known}
+use Rattle.index_rule.proofs.Stepping.{still_holds_none}
 use Rattle.delta_buffer.specs.Walks.{AreWalkOf, IsWalkOf, MakesIn}
 use Rattle.delta_buffer.proofs.CallSteps.{made_in_call}
 use Rattle.delta_buffer.proofs.Stepping.{no_crossing}
 use Rattle.index_rule.specs.Calls.{CanCall}
-use Rattle.point_calls.specs.PointCalls.{HasSpare, IsOneSection, KeepsRows, LooksUp}
+use Rattle.point_calls.specs.PointCalls.{HasSpare, IsCallSoFar, IsOneSection, KeepsRows, LooksUp}
 
 -- ---- one step ----
 
@@ -76,8 +78,7 @@ pub record IsIn (b : Board) (start h : Hand) : Type 0 where
   pub of : IsHandOf b h
   pub number : h.number ≡ start.number
   pub begun : HasBegun start (known h)
-  pub valid : Valid (opening_of b) (known h)
-  pub built : AreBuilt (known h)
+  pub follows : Follows (opening_of b) (view h)
   pub since : Continues (known start) (known h)
   pub rows : KeepsRows b start h
   pub section : IsOneSection start h
@@ -90,8 +91,7 @@ in_first b h k d none keeps of m =
       of = m.of;
       number = m.number;
       begun = begins b h k d of m;
-      valid = valid_known b h k d of m;
-      built = built_known b h k d of m;
+      follows = m.acts.3 (opening_of b) of.opened;
       since = goes_on b h k d of m;
       rows = λ spare has. spare_on b h k d of m keeps spare has;
       section = section_on b h h k d none of m refl;
@@ -105,8 +105,7 @@ in_step b start h k d none keeps m i =
       of = m.of;
       number = m.number ∙ i.number;
       begun = begun_on start (known h) (known k) i.begun (goes_on b h k d i.of m);
-      valid = valid_known b h k d i.of m;
-      built = built_known b h k d i.of m;
+      follows = m.acts.3 (opening_of b) i.of.opened;
       since = continues_trans (known start) (known h) (known k) i.since (goes_on b h k d i.of m);
       rows = λ spare has. spare_on b h k d i.of m keeps spare (i.rows spare has);
       section = section_on b start h k d none i.of m i.section;
@@ -137,6 +136,62 @@ pub in_all : (b : Board) (start h : Hand) (actions : List Action) (k : Hand) →
 in_all b start h [] k kept all i = subst (IsIn b start) (sym all) i
 in_all b start h (d ∷ actions) k kept all i =
     in_step b start all.0 k d kept.0 kept.1 all.2 (in_all b start h actions all.0 kept.2 all.1 i)
+
+-- ---- the call so far ----
+
+-- it is in its call, where it added no entry
+pub call_is : (b : Board) (start h : Hand) → IsHandOf b start → IsIn b start h →
+    AddsNoEntry start h → IsCallSoFar b start h
+call_is b start h of i none =
+    record {
+      so_far = record {
+        began = of;
+        number = i.number;
+        within = within_end start h i.begun;
+        no_entry = none;
+      };
+      section = i.section;
+      follows = i.follows;
+    }
+
+-- the call goes on from where it began
+pub call_since : (b : Board) (start h : Hand) → IsCallSoFar b start h →
+    Continues (known start) (known h)
+call_since b start h call =
+    let w = call.so_far.within in
+    continues_trans (known start) (w.1 ++ known start) (known h) (w.1, refl) w.4
+
+-- where it took no row and gave none it is in its call
+pub in_call : (b : Board) (start h : Hand) → IsHandOf b h → IsCallSoFar b start h →
+    KeepsRows b start h → IsIn b start h
+in_call b start h of call rows =
+    let w = call.so_far.within in
+    record {
+      of = of;
+      number = call.so_far.number;
+      begun = (w.0, w.1, w.2, w.3);
+      follows = call.follows;
+      since = call_since b start h call;
+      rows = rows;
+      section = call.section;
+    }
+
+-- behind a further step that adds no entry
+pub call_step : (b : Board) (start h k : Hand) (d : Action) → IsNoCrossing d → KeepsLog d →
+    IsHandOf b h → Makes b h d k → IsCallSoFar b start h → IsCallSoFar b start k
+call_step b start h k d none keeps of m call =
+    let w = call.so_far.within in
+    record {
+      so_far = record {
+        began = call.so_far.began;
+        number = m.number ∙ call.so_far.number;
+        within = within_end start k
+            (begun_on start (known h) (known k) (w.0, w.1, w.2, w.3) (goes_on b h k d of m));
+        no_entry = no_entry b h k d of m keeps ∙ call.so_far.no_entry;
+      };
+      section = section_on b start h k d none of m call.section;
+      follows = m.acts.3 (opening_of b) of.opened;
+    }
 
 -- a step that was made after the call began is one of the call
 pub made_in : (b : Board) (start h k : Hand) (d : Action) → IsIn b start h → Makes b h d k →

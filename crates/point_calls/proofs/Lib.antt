@@ -7,3 +7,4 @@ pub mod RowChanging
 pub mod Refusals
 pub mod RowPutting
 pub mod NewRows
+pub mod Exchanging

@@ -54,18 +54,16 @@ module _ (b : Board) (h m : Hand) (word : ℕ) (can : CanCall b h) (loads : Make
           record {
             number = names.number ∙ loads.number;
             search = record {
-              of = call.of;
-              reading = call.reading;
+              call = call;
               stands = stands_after_slot b m k 0 0 group loads.of names;
               walkable = subst (λ (g : ℕ). IsWalkable o g (known k)) here
-                  (opened_walkable o (known k) in_located.valid in_located.built 0).0;
+                  (opened_walkable o (known k) in_located.follows.valid in_located.follows.built 0).0;
               in_table = omega arith;
-              holds_none = call.holds_none;
             };
             root = word;
             steps = (m, (h, refl, loads), names);
             answers = λ key most.
-                ((groups_as_opened o (known k) in_located.built).0 key).0
+                ((groups_as_opened o (known k) in_located.follows.built).0 key).0
                 ∙ (opening_group_is o key most ∙ sym group_is);
             no_entry = no_entry b m k load loads.of names (λ o t log. refl)
                 ∙ no_entry b h m (LoadRoot word) can.of loads (λ o t log. refl);

@@ -8,6 +8,7 @@ use Rattle.index_machine.specs.declared.opening.Opening.{Opening}
 use Rattle.index_machine.specs.declared.events.Action.TheVariants.{LoadRoot, LoadSlotGroup}
 use Rattle.index_machine.specs.Conditions.{Valid}
 use Rattle.index_machine.specs.Execution.{Execution}
+use Rattle.index_machine.specs.KeyRanges.{group_of}
 use Rattle.index_machine.specs.LivePlaces.{value_in_map}
 use Rattle.index_machine.specs.OpeningRows.{opening_row, row_from}
 use Rattle.index_machine.specs.Openings.{greatest_key, opening_group}
@@ -25,11 +26,13 @@ use Rattle.index_rule.specs.Moments.{AddsNoEntry, IsWithin}
 use Rattle.index_rule.specs.Records.{key_at, or_zero}
 use Rattle.index_rule.proofs.BufferStepping.{opened_walkable}
 use Rattle.index_rule.proofs.BuiltLaws.{arrays_as_opened, groups_as_opened, one_place_each}
-use Rattle.delta_buffer.specs.Searching.{CanSearch}
+use Rattle.delta_buffer.specs.Searching.{CanSearch, FindsGap}
+use Rattle.delta_buffer.specs.Walks.{Walks}
 use Rattle.record_cell.specs.Reads.{FindsNone}
 use Rattle.point_calls.specs.Lookup.{ComesTo, HasMissed}
 use Rattle.point_calls.specs.PointCalls.{OpensEmpty}
-use Rattle.point_calls.proofs.Knowing.{IsIn, in_first, in_step}
+use Rattle.point_calls.proofs.Knowing.{IsIn, built_at, call_is, in_first, in_step, in_walk}
+use Rattle.point_calls.proofs.Knowing.{valid_at, within_whole}
 
 no_pair : {X : Type 0} {r : ℕ × ℕ} → None ≡ Some r → X
 no_pair e = cc
@@ -51,9 +54,9 @@ no_array o t empty valid built group k place is =
 
 -- a key without a row in the buffer of its group is not in the map
 pub gap_absent : (o : Opening) (t : Execution) → o.rows ≡ [] → Valid o t → AreBuilt t →
-    (key g : ℕ) → opening_group o key ≡ g → look (rows g t) key ≡ None → value_in_map o key t ≡ None
+    (key g : ℕ) → group_of o key t ≡ g → look (rows g t) key ≡ None → value_in_map o key t ≡ None
 gap_absent o t empty valid built key g own gap =
-    (not_found o t valid key g (((groups_as_opened o t built).0 key).0 ∙ own)
+    (not_found o t valid key g own
     (λ f e. open_not (sym ((groups_as_opened o t built).1 g) ∙ e))
     (λ a is. no_array o t empty valid built g key a is)
     (λ p is. absurd (gaps o t valid g key gap p is))).1
@@ -78,11 +81,23 @@ stone_absent b h k g key place empty row none valid built =
 
 -- ---- where the caller is ----
 
--- the group to which it came is that of the key, by what the opening says
-pub group_opened : (b : Board) (h k : Hand) (g key : ℕ) → ComesTo b h g k → AreBuilt (known k) →
-    key ≤ greatest_key → opening_group (opening_of b) key ≡ g
-group_opened b h k g key comes built most =
-    sym (((groups_as_opened (opening_of b) (known k) built).0 key).0) ∙ comes.answers key most
+-- nothing is rebuilt, so what is the group of a key was so at the opening
+pub group_opened : (o : Opening) (t : Execution) → AreBuilt t → (key g : ℕ) →
+    group_of o key t ≡ g → opening_group o key ≡ g
+group_opened o t built key g own = sym ((groups_as_opened o t built).0 key).0 ∙ own
+
+-- and it is so at any other moment
+pub group_stays : (o : Opening) (t u : Execution) → AreBuilt t → AreBuilt u → (key g : ℕ) →
+    group_of o key t ≡ g → group_of o key u ≡ g
+group_stays o t u built there key g own =
+    ((groups_as_opened o u there).0 key).0 ∙ group_opened o t built key g own
+
+-- so the group to which the caller came is still that of the key
+pub group_reached : (b : Board) (h l n : Hand) (g key : ℕ) → ComesTo b h g l → IsIn b h l →
+    IsIn b h n → key ≤ greatest_key → group_of (opening_of b) key (known n) ≡ g
+group_reached b h l n g key comes il i most =
+    group_stays (opening_of b) (known l) (known n) il.follows.built i.follows.built key g
+    (comes.answers key most)
 
 -- it is within its call there
 pub in_comes : (b : Board) (h k : Hand) (g : ℕ) → IsHandOf b h → ComesTo b h g k → IsIn b h k
@@ -95,25 +110,38 @@ in_comes b h k g of comes =
 
 -- the key was missed
 pub missed : (b : Board) (start h : Hand) (g key : ℕ) → IsHandOf b start → IsIn b start h →
-    CanSearch b g h → AddsNoEntry start h → opening_group (opening_of b) key ≡ g →
+    CanSearch b g h → AddsNoEntry start h → group_of (opening_of b) key (known h) ≡ g →
     (moment : Execution) → IsWithin start h moment →
     value_in_map (opening_of b) key moment ≡ None → HasMissed b start h g key
 missed b start h g key of i can none own moment within absent =
     let o = opening_of b in
     record {
-      began = of;
-      call = record { of = can.of; reading = can.reading; holds_none = can.holds_none };
-      number = i.number;
-      sees = record {
-        allowed = inl (can.reading, can.stands);
-        true_word = subst (λ (z : ℕ). has_stale_phase z (known h) ≡ false) own
-            (opened_walkable o (known h) i.valid i.built key).1;
-      };
-      exists = can;
-      no_entry = none;
+      call = call_is b start h of i none;
       rows = i.rows;
-      section = i.section;
+      search = can;
+      sees = record {
+        allowed = inl (can.call.reading, can.stands);
+        true_word = subst (λ (z : ℕ). has_stale_phase z (known h) ≡ false)
+            (group_opened o (known h) i.follows.built key g own)
+            (opened_walkable o (known h) i.follows.valid i.follows.built key).1;
+      };
       moment = moment;
       within = within;
       absent = absent;
     }
+
+-- behind a walk that found a gap
+pub missed_gap : (b : Board) (h l k : Hand) (g key before next : ℕ) → IsHandOf b h → OpensEmpty b →
+    key ≤ greatest_key → ComesTo b h g l → Walks b g l k → CanSearch b g k → AddsNoEntry l k →
+    FindsGap b g key before next l k → HasMissed b h k g key
+missed_gap b h l k g key before next of empty most comes walks can none gap =
+    let o = opening_of b in
+    let il = in_comes b h l g of comes in
+    let ik = in_walk b g h l walks.0 k walks.1 walks.2 il in
+    let own = group_reached b h l k g key comes il ik most in
+    let on = gap.within.5 in
+    let built = built_at gap.moment (known k) on ik.follows.built in
+    missed b h k g key of ik can (none ∙ comes.no_entry) own gap.moment
+    (within_whole b h l k gap.moment il gap.within)
+    (gap_absent o gap.moment empty (valid_at b gap.moment (known k) on ik.follows.valid) built key g
+    (group_stays o (known k) gap.moment ik.follows.built built key g own) gap.absent)

@@ -23,15 +23,14 @@ use Rattle.index_machine.specs.Forms.{Unlocked, state_word}
 use Rattle.index_machine.specs.Places.{first_version}
 use Rattle.index_machine.specs.Words.{link_behind, store_of, word}
 use Rattle.machine_buffers.proofs.Inserting.{link_open}
-use Rattle.index_rule.proofs.BuiltLaws.{groups_as_opened}
 use Rattle.delta_buffer.specs.Inserting.{BelongsUntilLinked, CanInsert, IsPrivateStore, OnlyStores}
 use Rattle.delta_buffer.specs.Searching.{BelongsBetween}
-use Rattle.point_calls.proofs.RowPutting.{group_seen, is_in, seen_open}
+use Rattle.point_calls.proofs.RowPutting.{group_seen, seen_open}
 use Rattle.index_machine.specs.Execution.{Continues, Execution}
 use Rattle.index_machine.specs.Reaching.{saw_open}
 use Rattle.index_machine.specs.Rows.{HeldBy, Holds, HoldsNone, InBuffer, role}
 use Rattle.index_machine.specs.Sections.{IsNoCrossing, StaysInside}
-use Rattle.index_machine.proofs.Executions.{choice-other, choice-same, continues_same, continues_trans}
+use Rattle.index_machine.proofs.Executions.{choice-other, choice-same, continues_trans}
 use Rattle.index_machine.proofs.Holders.{TakesLock}
 use Rattle.machine_readers.proofs.ReadSections.{saw_open_on}
 use Rattle.index_rule.specs.declared.board.Board.{Board}
@@ -39,18 +38,18 @@ use Rattle.index_rule.specs.declared.hand.Hand.{Hand}
 use Rattle.index_rule.specs.Hands.{IsHandOf, Makes, known, opening_of}
 use Rattle.index_rule.proofs.BufferStepping.{still_row}
 use Rattle.index_rule.proofs.Calls.{HasBegun, begun_on, goes_on, is_within}
-use Rattle.index_rule.proofs.RecordReading.{KeepsLog, no_entry}
+use Rattle.index_rule.proofs.RecordReading.{KeepsLog}
 use Rattle.index_rule.proofs.RecordStepping.{goes_on_inside, now, since}
-use Rattle.index_rule.proofs.Stepping.{built_known, valid_after, valid_known}
+use Rattle.index_rule.proofs.Stepping.{valid_after}
 use Rattle.delta_buffer.specs.Walks.{MakesIn, load_of_link}
 use Rattle.delta_buffer.proofs.CallSteps.{made_in_call}
 use Rattle.delta_buffer.proofs.Stepping.{before_after, search_after}
 use Rattle.point_calls.specs.declared.found.Gap.{Gap}
 use Rattle.point_calls.specs.PointCalls.{OpensEmpty, StoresElsewhere}
 use Rattle.point_calls.specs.Putting.{HasFoundGap, IsMissing, MayLinkIn}
-use Rattle.point_calls.proofs.Knowing.{built_at, section_on, valid_at, within_on}
+use Rattle.point_calls.proofs.Knowing.{built_at, call_since, call_step, valid_at, within_on}
 use Rattle.point_calls.proofs.LeftWords.{left_on, row_elsewhere}
-use Rattle.point_calls.proofs.Missing.{gap_absent, no_array}
+use Rattle.point_calls.proofs.Missing.{gap_absent, group_stays, no_array}
 
 -- a step by which the hand does not leave, takes no lock, adds no entry, and stores nothing at the
 -- word
@@ -66,32 +65,26 @@ pub may_on : (b : Board) (start h k : Hand) (gap : Gap) (d : Action) →
     MayLinkIn b start h gap → MayLinkIn b start k gap
 may_on b start h k gap d quiet m may =
     let o = opening_of b in
-    let of = may.search.of in
-    let w = may.within in
+    let of = may.search.call.of in
     let on = goes_on b h k d of m in
+    let call = call_step b start h k d quiet.none quiet.keeps of m may.call in
     record {
-      began = may.began;
+      call = call;
       search = search_after b gap.group h k d quiet.none quiet.free m may.search;
-      own = may.own;
-      number = m.number ∙ may.number;
-      within = is_within start k (known k)
-          (begun_on start (known h) (known k) (w.0, w.1, w.2, w.3) on) (continues_same (known k));
-      since = continues_trans (known start) (known h) (known k) may.since on;
-      valid = valid_known b h k d of m;
-      built = built_known b h k d of m;
-      no_entry = no_entry b h k d of m quiet.keeps ∙ may.no_entry;
+      own = group_stays o (known h) (known k) may.call.follows.built call.follows.built gap.key
+          gap.group may.own;
       moment = may.moment;
       moment_within = within_on start h k may.moment may.moment_within on;
       absent = may.absent;
       loaded = left_on b start h k (load_of_link gap.group gap.before gap.next) d
-          (link_behind gap.group gap.before) may.number of quiet.elsewhere m may.loaded;
+          (link_behind gap.group gap.before) may.call.so_far.number of quiet.elsewhere m may.loaded;
       between = (
         before_after b gap.group gap.key gap.before h k d quiet.none m may.search may.between.0,
         ⊎_elim (λ (z : gap.next ≡ 0). inl z)
             (λ (z : (j : ℕ) × (role o gap.next (known h) ≡ InBuffer gap.group j) × (gap.key < j)).
             inr (
               z.0,
-              still_row b h k d of m may.search.reading.caller quiet.none gap.group z.0 gap.next
+              still_row b h k d of m may.search.call.reading.caller quiet.none gap.group z.0 gap.next
                   may.search.stands z.1,
               z.2,
             ))
@@ -100,24 +93,28 @@ may_on b start h k gap d quiet m may =
       seen = now b h k d of m (λ z t. saw_open z gap.group t ≡ true)
           (saw_open_on h.number gap.group (since b h k d of m) (known h)
           (goes_on_inside b h k d of m quiet.none) may.seen);
-      section = section_on b start h k d quiet.none of m may.section;
     }
 
 -- its step is one of the call
 pub made_there : (b : Board) (start h k : Hand) (gap : Gap) (d : Action) →
     MayLinkIn b start h gap → Makes b h d k → MakesIn start d k
 made_there b start h k gap d may m =
-    made_in_call b start h k d may.since may.number may.search.of m
+    made_in_call b start h k d (call_since b start h may.call) may.call.so_far.number
+    may.search.call.of m
 
 -- the key was missing
 pub is_missing : (b : Board) (start h : Hand) (gap : Gap) → OpensEmpty b →
     MayLinkIn b start h gap → IsMissing b gap.key start h
 is_missing b start h gap empty may =
-    let on = may.moment_within.5 in (
+    let o = opening_of b in
+    let on = may.moment_within.5 in
+    let built = built_at may.moment (known h) on may.call.follows.built in (
       may.moment,
       may.moment_within,
-      gap_absent (opening_of b) may.moment empty (valid_at b may.moment (known h) on may.valid)
-          (built_at may.moment (known h) on may.built) gap.key gap.group may.own may.absent,
+      gap_absent o may.moment empty (valid_at b may.moment (known h) on may.call.follows.valid) built
+          gap.key gap.group
+          (group_stays o (known h) may.moment may.call.follows.built built gap.key gap.group may.own)
+          may.absent,
     )
 
 -- ---- the gap that was found ----
@@ -131,21 +128,15 @@ may_link b start h n gap word found m =
     let seen = group_seen b start h n gap.group gap.key word at m in
     let finds = found.finds in
     record {
-      began = at.began;
+      call = seen.call;
       search = seen.search;
-      own = at.own;
-      number = seen.number;
-      within = seen.within;
-      since = (is_in b start n gap.group gap.key seen).since;
-      valid = seen.valid;
-      built = seen.built;
-      no_entry = seen.no_entry;
+      own = seen.own;
       moment = finds.moment;
       moment_within = within_on start h n finds.moment finds.within
-          (goes_on b h n (LoadPhase gap.group word) at.search.of m);
+          (goes_on b h n (LoadPhase gap.group word) at.search.call.of m);
       absent = finds.absent;
       loaded = left_on b start h n (load_of_link gap.group gap.before gap.next)
-          (LoadPhase gap.group word) (link_behind gap.group gap.before) at.number at.search.of tt m
+          (LoadPhase gap.group word) (link_behind gap.group gap.before) at.call.so_far.number at.search.call.of tt m
           found.loaded;
       between = (
         before_after b gap.group gap.key gap.before h n (LoadPhase gap.group word) tt m at.search
@@ -155,14 +146,13 @@ may_link b start h n gap word found m =
             × (gap.key < j)).
             inr (
               z.0,
-              still_row b h n (LoadPhase gap.group word) at.search.of m at.search.reading.caller tt
+              still_row b h n (LoadPhase gap.group word) at.search.call.of m at.search.call.reading.caller tt
                   gap.group z.0 gap.next at.search.stands z.1,
               z.2,
             ))
             finds.belongs.1,
       );
       seen = seen_open b start h n gap.group gap.key word at m;
-      section = seen.section;
     }
 
 -- ---- what others do until the row is linked ----
@@ -184,9 +174,9 @@ pub belongs_until : (b : Board) (start h : Hand) (gap : Gap) → OpensEmpty b �
 belongs_until b start h gap empty may newer valid only none =
     let o = opening_of b in
     let stay = only_inside h.number newer only in
-    link_open o h.number gap.group gap.key may.search.reading.caller newer [] (known h) valid tt stay
-    may.search.stands (((groups_as_opened o (known h) may.built).0 gap.key).0 ∙ may.own)
-    (λ a is. no_array o (known h) empty may.valid may.built gap.group gap.key a is)
+    link_open o h.number gap.group gap.key may.search.call.reading.caller newer [] (known h) valid tt stay
+    may.search.stands may.own
+    (λ a is. no_array o (known h) empty may.call.follows.valid may.call.follows.built gap.group gap.key a is)
     (saw_open_on h.number gap.group newer (known h) stay may.seen) none
 
 -- so the filled row may be linked
@@ -245,7 +235,7 @@ pub adds_there : (b : Board) (start h k : Hand) (gap : Gap) (change same : Chang
     AddsChange b h change old k → AddsChange b start same old k
 adds_there b start h k gap change same old may is adds =
     let moment : Execution = adds.0 in
-    let w = may.within in
+    let w = may.call.so_far.within in
     let here : Continues (known h) moment =
     continues_trans (known h) (adds.1.1 ++ known h) moment (adds.1.1, refl) adds.1.4 in
     let begun : HasBegun start moment =
@@ -254,7 +244,7 @@ adds_there b start h k gap change same old may is adds =
       moment,
       is_within start k moment begun adds.1.5,
       adds.2,
-      adds.3 ∙ ap (λ (l : Log). Made (length (history moment)) change old ∷ l) may.no_entry,
+      adds.3 ∙ ap (λ (l : Log). Made (length (history moment)) change old ∷ l) may.call.so_far.no_entry,
     )
 
 -- a hand that linked its row holds none

@@ -36,7 +36,7 @@ use Rattle.point_calls.proofs.RowReading.{in_found, loaded_at, of_row}
 pub of_key_below : (b : Board) (start k : Hand) (key at : ℕ) → IsIn b start k → IsOfKey b key at k →
     at < 2 ^ 28
 of_key_below b start k key at i of_key =
-    place_below (opening_of b) at (keyed_place (opening_of b) (known k) i.valid at (key, of_key))
+    place_below (opening_of b) at (keyed_place (opening_of b) (known k) i.follows.valid at (key, of_key))
 
 module _ (b : Board) (start h : Hand) (g key place : ℕ) (i : IsIn b start h) (can : CanSearch b g h)
     (row : IsReachedRow (opening_of b) h.number g key place (known h)) where

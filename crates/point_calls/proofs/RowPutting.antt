@@ -11,13 +11,13 @@ use Rattle.word_layout.specs.Words.{PlaceWord}
 use Rattle.index_machine.specs.declared.events.Action.{Action}
 use Rattle.index_machine.specs.declared.events.Action.TheVariants.{LoadPhase, LoadState}
 use Rattle.index_machine.specs.declared.events.Action.TheVariants.{Lock, StoreValue, Unlock}
-use Rattle.index_machine.specs.Openings.{opening_group}
+use Rattle.index_machine.specs.KeyRanges.{group_of}
 use Rattle.index_machine.specs.Reaching.{saw_open, saw_open_after}
 use Rattle.index_machine.specs.Represents.{has_stale_phase}
 use Rattle.index_machine.specs.Rows.{role_key}
 use Rattle.index_machine.specs.Sections.{IsNoCrossing}
 use Rattle.index_machine.specs.Words.{link_behind}
-use Rattle.index_machine.proofs.Executions.{continues_same, continues_trans, own_step}
+use Rattle.index_machine.proofs.Executions.{continues_trans, own_step}
 use Rattle.index_machine.proofs.Holders.{TakesLock}
 use Rattle.index_machine.proofs.Placing.{KeepsRoles}
 use Rattle.index_rule.specs.declared.board.Board.{Board}
@@ -27,7 +27,6 @@ use Rattle.index_rule.specs.Hands.{IsHandOf, Makes, known, opening_of}
 use Rattle.index_rule.specs.Moments.{AddsNoEntry}
 use Rattle.index_rule.proofs.BufferStepping.{opened_walkable, phase_found}
 use Rattle.index_rule.proofs.BuiltLaws.{groups_as_opened}
-use Rattle.index_rule.proofs.Calls.{is_within}
 use Rattle.index_rule.proofs.RecordReading.{no_entry}
 use Rattle.index_rule.proofs.RecordStepping.{now, same_role, still_reached}
 use Rattle.delta_buffer.specs.Searching.{CanSearch, FindsGap, IsReachedRow}
@@ -43,25 +42,14 @@ use Rattle.point_calls.specs.declared.found.FoundRow.{FoundRow}
 use Rattle.point_calls.specs.declared.found.Gap.{Gap}
 use Rattle.point_calls.specs.PointCalls.{MeetsChange, OpensEmpty}
 use Rattle.point_calls.specs.Putting.{HasFoundGap, HasFoundRow, HasFoundTombstone, IsInGroupOf}
-use Rattle.point_calls.proofs.Knowing.{IsIn, in_all, in_step, within_whole}
+use Rattle.point_calls.proofs.Knowing.{IsIn, call_is, in_all, in_call, in_step, within_whole}
 use Rattle.point_calls.proofs.LeftWords.{left_on, made_at, made_behind, walked_at}
-use Rattle.point_calls.proofs.Missing.{no_array}
+use Rattle.point_calls.proofs.Missing.{group_opened, group_stays, no_array}
 use Rattle.point_calls.proofs.RowReading.{ready_row}
 
 -- what it knows in the group of the key it knows within its call
 pub is_in : (b : Board) (start h : Hand) (g key : ℕ) → IsInGroupOf b start h g key → IsIn b start h
-is_in b start h g key at =
-    let w = at.within in
-    record {
-      of = at.search.of;
-      number = at.number;
-      begun = (w.0, w.1, w.2, w.3);
-      valid = at.valid;
-      built = at.built;
-      since = continues_trans (known start) (w.1 ++ known start) (known h) (w.1, refl) w.4;
-      rows = at.rows;
-      section = at.section;
-    }
+is_in b start h g key at = in_call b start h at.search.call.of at.call at.rows
 
 module _ (b : Board) (start h k : Hand) (g key : ℕ) (d : Action) (none : IsNoCrossing d)
     (free : TakesLock d → ⊥) (keeps : KeepsRoles d) (m : Makes b h d k)
@@ -73,26 +61,21 @@ module _ (b : Board) (start h k : Hand) (g key : ℕ) (d : Action) (none : IsNoC
   pub group_on : AddsNoEntry start k → IsInGroupOf b start k g key
   group_on entry =
       record {
-        began = at.began;
-        search = search_after b g h k d none free m at.search;
-        own = at.own;
-        number = in_k.number;
-        within = is_within start k (known k) in_k.begun (continues_same (known k));
-        valid = in_k.valid;
-        built = in_k.built;
-        no_entry = entry;
+        call = call_is b start k at.call.so_far.began in_k entry;
         rows = in_k.rows;
-        section = in_k.section;
+        search = search_after b g h k d none free m at.search;
+        own = group_stays (opening_of b) (known h) (known k) at.call.follows.built in_k.follows.built
+            key g at.own;
       }
 
   -- and at the row
   pub row_on : (place : ℕ) → IsReachedRow (opening_of b) h.number g key place (known h) →
       IsReachedRow (opening_of b) k.number g key place (known k)
   row_on place row = (
-    same_role b h k d at.search.of m none place
+    same_role b h k d at.search.call.of m none place
         (ready_row b g key place h at.search row).at_own.there
         ∙ row.0,
-    still_reached b h k d at.search.of m none place row.1,
+    still_reached b h k d at.search.call.of m none place row.1,
   )
 
 -- the row was found to be a tombstone
@@ -113,8 +96,8 @@ found_stone b start h k r at word found finds stone entry =
             place found.row;
       };
       loaded = made_at b start h k (LoadState place word) (PlaceWord place State)
-          (is_in b start h g key found.group_of).since found.group_of.number
-          found.group_of.search.of here.1;
+          (is_in b start h g key found.group_of).since found.group_of.call.so_far.number
+          found.group_of.search.call.of here.1;
       stone = stone;
     }
 
@@ -125,9 +108,10 @@ pub sees_phase : (b : Board) (start h : Hand) (g key : ℕ) → IsInGroupOf b st
     CanSeePhase (opening_of b) h.number g (known h)
 sees_phase b start h g key at =
     record {
-      allowed = inl (at.search.reading, at.search.stands);
-      true_word = subst (λ (z : ℕ). has_stale_phase z (known h) ≡ false) at.own
-          (opened_walkable (opening_of b) (known h) at.valid at.built key).1;
+      allowed = inl (at.search.call.reading, at.search.stands);
+      true_word = subst (λ (z : ℕ). has_stale_phase z (known h) ≡ false)
+          (group_opened (opening_of b) (known h) at.call.follows.built key g at.own)
+          (opened_walkable (opening_of b) (known h) at.call.follows.valid at.call.follows.built key).1;
     }
 
 both : (x y : Bool) → x ≡ true → y ≡ true → (x && y) ≡ true
@@ -139,18 +123,18 @@ module _ (b : Board) (start h n : Hand) (g key word : ℕ) (at : IsInGroupOf b s
   pub group_seen : IsInGroupOf b start n g key
   group_seen =
       group_on b start h n g key (LoadPhase g word) tt (λ z. z) tt m at
-      (no_entry b h n (LoadPhase g word) at.search.of m (λ o t log. refl) ∙ at.no_entry)
+      (no_entry b h n (LoadPhase g word) at.search.call.of m (λ o t log. refl) ∙ at.call.so_far.no_entry)
 
   -- it was open
   pub is_open : word ≡ word_of_phase Open
   is_open =
-      sym (phase_found b h n g word at.search.of m)
+      sym (phase_found b h n g word at.search.call.of m)
       ∙ ap (λ (z : Phase). word_of_phase z)
-      ((groups_as_opened (opening_of b) (known n) group_seen.built).1 g)
+      ((groups_as_opened (opening_of b) (known n) group_seen.call.follows.built).1 g)
 
   pub seen_open : saw_open n.number g (known n) ≡ true
   seen_open =
-      now b h n (LoadPhase g word) at.search.of m (λ z t. saw_open z g t ≡ true)
+      now b h n (LoadPhase g word) at.search.call.of m (λ z t. saw_open z g t ≡ true)
       (own_step (saw_open_after g) false h.number (LoadPhase g word) (m.acts.0 ++ known h)
       ∙ ap (λ (z : Bool). cond z true (saw_open h.number g (m.acts.0 ++ known h)))
       (both (g == g) (word == word_of_phase Open) (eq-eqb g g refl)
@@ -176,10 +160,10 @@ module _ (b : Board) (start h n : Hand) (g key word : ℕ) (at : IsInGroupOf b s
             since = refl;
             stays = tt;
             stands = group_seen.search.stands;
-            of_key = ((groups_as_opened (opening_of b) (known n) group_seen.built).0 key).0 ∙ at.own;
+            of_key = group_seen.own;
           };
           seen = seen_open;
-          array = λ a is. no_array (opening_of b) (known n) empty group_seen.valid group_seen.built g
+          array = λ a is. no_array (opening_of b) (known n) empty group_seen.call.follows.valid group_seen.call.follows.built g
               key a is;
         });
       }
@@ -208,9 +192,9 @@ module _ (b : Board) (start n : Hand) (g key place : ℕ) (at : IsInGroupOf b st
   was_alive h k first second s stone phase m row live =
       record {
         loads = made_behind b start n k (LoadState place first) (LoadState place second)
-            (PlaceWord place State) at.number at.search.of
+            (PlaceWord place State) at.call.so_far.number at.search.call.of
             (left_on b start h n (LoadState place first) (LoadPhase g phase) (PlaceWord place State)
-            stone.found.group_of.number stone.found.group_of.search.of tt m stone.loaded)
+            stone.found.group_of.call.so_far.number stone.found.group_of.search.call.of tt m stone.loaded)
             s;
         of_key = ap role_key
             (row_on b start n k g key (LoadState place second) tt (λ z. z) tt s at place row).0;
@@ -221,20 +205,14 @@ module _ (b : Board) (start n : Hand) (g key place : ℕ) (at : IsInGroupOf b st
 
 -- the caller came to the group of the key and walked its buffer
 pub found_group : (b : Board) (start l n : Hand) (g key : ℕ) → IsHandOf b start →
-    opening_group (opening_of b) key ≡ g → IsIn b start n → CanSearch b g n → AddsNoEntry start n →
-    IsInGroupOf b start n g key
+    group_of (opening_of b) key (known n) ≡ g → IsIn b start n → CanSearch b g n →
+    AddsNoEntry start n → IsInGroupOf b start n g key
 found_group b start l n g key of own i can none =
     record {
-      began = of;
+      call = call_is b start n of i none;
+      rows = i.rows;
       search = can;
       own = own;
-      number = i.number;
-      within = is_within start n (known n) i.begun (continues_same (known n));
-      valid = i.valid;
-      built = i.built;
-      no_entry = none;
-      rows = i.rows;
-      section = i.section;
     }
 
 -- and found a gap there

@@ -4,6 +4,7 @@ use Rattle.word_layout.specs.declared.places.Part.TheVariants.{State}
 use Rattle.word_layout.specs.Words.{PlaceWord}
 use Rattle.index_machine.specs.declared.events.Action.TheVariants.{LoadState, LoadValue}
 use Rattle.index_machine.specs.Execution.{Continues}
+use Rattle.index_machine.specs.KeyRanges.{group_of}
 use Rattle.index_machine.specs.LivePlaces.{value_in_map}
 use Rattle.index_machine.specs.Places.{form}
 use Rattle.index_machine.specs.Rows.{InBuffer, role, role_key}
@@ -26,25 +27,24 @@ use Rattle.record_cell.specs.Reads.{FindsLock, FindsNone, FindsValue, IsHeldByAn
 use Rattle.record_cell.proofs.Found.{found_in_place}
 use Rattle.point_calls.specs.Lookup.{HasMissed}
 use Rattle.point_calls.specs.PointCalls.{IsOfKey, MeetsChange, MeetsLock, OpensEmpty}
-use Rattle.point_calls.proofs.Knowing.{IsIn, built_at, in_step, valid_at, within_whole}
+use Rattle.point_calls.proofs.Knowing.{IsIn, built_at, call_is, in_step, valid_at, within_whole}
 use Rattle.point_calls.proofs.LeftWords.{left_on, made_at, made_behind}
-use Rattle.point_calls.proofs.Missing.{missed, stone_absent}
-use Rattle.index_machine.specs.Openings.{opening_group}
+use Rattle.point_calls.proofs.Missing.{group_stays, missed, stone_absent}
 
 -- the caller can act on the row that it found
 pub ready_row : (b : Board) (g key place : ℕ) (h : Hand) → CanSearch b g h →
     IsReachedRow (opening_of b) h.number g key place (known h) → IsReadyAt b h place
 ready_row b g key place h can row =
     record {
-      of = can.of;
+      of = can.call.of;
       at_own = record {
-        there = record { reading = can.reading; there = inr row.1 };
+        there = record { reading = can.call.reading; there = inr row.1 };
         group = g;
         key = key;
         stands = can.stands;
         in_group = inr row.0;
       };
-      holds_none = can.holds_none;
+      holds_none = can.call.holds_none;
     }
 
 -- a place of the key of the row is one of the key
@@ -88,14 +88,17 @@ module _ (b : Board) (start h : Hand) (g key place : ℕ) (i : IsIn b start h) (
 
     -- a tombstone was found
     pub missed_stone : IsHandOf b start → OpensEmpty b → AddsNoEntry start k →
-        opening_group (opening_of b) key ≡ g → FindsNone b h place k → HasMissed b start k g key
+        group_of (opening_of b) key (known h) ≡ g → FindsNone b h place k → HasMissed b start k g key
     missed_stone of empty none own stone =
         let on : Continues stone.0 (known k) = stone.1.5 in
-        missed b start k g key of in_found search_found none own stone.0
+        missed b start k g key of in_found search_found none
+        (group_stays (opening_of b) (known h) (known k) i.follows.built in_found.follows.built key g
+        own)
+        stone.0
         (within_whole b start h k stone.0 i stone.1)
         (stone_absent b h k g key place empty row.0 stone
-        (valid_at b stone.0 (known k) on in_found.valid)
-        (built_at stone.0 (known k) on in_found.built))
+        (valid_at b stone.0 (known k) on in_found.follows.valid)
+        (built_at stone.0 (known k) on in_found.follows.built))
 
     -- the value and the state word were loaded behind it
     module _ (m n : Hand) (value second : ℕ) (loads : Makes b k (LoadValue at value) m)
@@ -127,10 +130,8 @@ module _ (b : Board) (start h : Hand) (g key place : ℕ) (i : IsIn b start h) (
       let o = opening_of b in
       let same : key_at o place (known h) ≡ key = ap (λ r. or_zero (role_key r)) row.0 in
       record {
-        began = of;
-        caller = subst (λ (z : ℕ). IsCaller o z) (i.number ∙ sym ik.number) can.reading.caller;
-        number = ik.number;
-        no_entry = none;
+        so_far = (call_is b start k of ik none).so_far;
+        caller = subst (λ (z : ℕ). IsCaller o z) (i.number ∙ sym ik.number) can.call.reading.caller;
         moment = found.0;
         within = within_whole b start h k found.0 i found.1;
         value = subst (λ (z : ℕ). value_in_map o z found.0 ≡ Some value) same found.3;

@@ -1,3 +1,4 @@
+pub mod Exchanges
 pub mod PointCalls
 pub mod Lookup
 pub mod Getting

@@ -8,11 +8,10 @@ use Rattle.index_machine.specs.Openings.{greatest_key}
 use Rattle.index_rule.specs.declared.board.Board.{Board}
 use Rattle.index_rule.specs.declared.hand.Hand.{Hand}
 use Rattle.index_rule.specs.Buffers.{CanSeePhase}
-use Rattle.index_rule.specs.Hands.{IsHandOf, MakesAll, known, opening_of}
+use Rattle.index_rule.specs.Hands.{MakesAll, known, opening_of}
 use Rattle.index_rule.specs.Moments.{AddsNoEntry, IsWithin}
 use Rattle.delta_buffer.specs.Searching.{CanSearch}
-use Rattle.index_rule.specs.Calls.{CanCall}
-use Rattle.point_calls.specs.PointCalls.{IsOneSection, KeepsRows}
+use Rattle.point_calls.specs.PointCalls.{IsCallSoFar, KeepsRows}
 
 -- the caller loaded the root and the group of its one slot, and stands in this group, which answers for
 -- every key
@@ -24,17 +23,13 @@ pub record ComesTo (b : Board) (h : Hand) (group : ℕ) (k : Hand) : Type 0 wher
   pub answers : (key : ℕ) → key ≤ greatest_key → group_of (opening_of b) key (known k) ≡ group
   pub no_entry : AddsNoEntry h k
 
--- in the call that began so the caller added no entry, and the key was not in the map at a moment of it;
--- it can load the phase of the key's group
+-- in the call so far the key was not in the map at a moment, and the caller can load the phase of the
+-- key's group
 pub record HasMissed (b : Board) (start h : Hand) (group key : ℕ) : Type 0 where
-  pub began : IsHandOf b start
-  pub call : CanCall b h
-  pub number : h.number ≡ start.number
-  pub sees : CanSeePhase (opening_of b) h.number group (known h)
-  pub exists : CanSearch b group h
-  pub no_entry : AddsNoEntry start h
+  pub call : IsCallSoFar b start h
   pub rows : KeepsRows b start h
-  pub section : IsOneSection start h
+  pub search : CanSearch b group h
+  pub sees : CanSeePhase (opening_of b) h.number group (known h)
   pub moment : Execution
   pub within : IsWithin start h moment
   pub absent : value_in_map (opening_of b) key moment ≡ None

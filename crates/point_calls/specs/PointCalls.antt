@@ -15,9 +15,11 @@ use Rattle.index_machine.specs.Words.{Store, store_of}
 use Rattle.index_rule.specs.declared.board.Board.{Board}
 use Rattle.index_rule.specs.declared.hand.Hand.{Hand}
 use Rattle.index_rule.specs.declared.rows.PrivateRow.{PrivateRow}
+use Rattle.index_rule.specs.Calls.{HasAddedNone}
 use Rattle.index_rule.specs.Hands.{known, opening_of, view}
 use Rattle.index_rule.specs.Moments.{IsWithin}
 use Rattle.index_rule.specs.OwnRows.{place_of_private}
+use Rattle.index_rule.specs.Rule.{Follows}
 use Rattle.delta_buffer.specs.Walks.{HasJustMade}
 use Rattle.record_cell.specs.Conditions.{IsLockedState}
 use Rattle.record_cell.specs.Reads.{IsHeldByAnother}
@@ -42,6 +44,13 @@ KeepsRows b h k = (spare : Option PrivateRow) → HasSpare b h spare → HasSpar
 -- the call stays within its read section: the hand neither entered nor left in it
 abbrev pub IsOneSection : Hand → Hand → Type 0
 IsOneSection h k = crossings k.number (known k) ≡ crossings h.number (known h)
+
+-- the call that began so has made a step, has stayed within its read section, and has added no entry;
+-- what its hand knows keeps the rule of the table
+pub record IsCallSoFar (b : Board) (start h : Hand) : Type 0 where
+  pub so_far : HasAddedNone b start h
+  pub section : IsOneSection start h
+  pub follows : Follows (opening_of b) (view h)
 
 -- the store, if there is one, is at another word
 abbrev pub StoresElsewhere : Word → Option Store → Type 0

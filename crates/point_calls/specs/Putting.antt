@@ -8,10 +8,9 @@ use Rattle.word_layout.specs.Phase.{word_of_phase}
 use Rattle.word_layout.specs.Words.{FreeHead, PlaceWord, address_of}
 use Rattle.index_machine.specs.declared.events.Action.TheVariants.{FailLink, FailPop, LoadFree}
 use Rattle.index_machine.specs.declared.events.Action.TheVariants.{LoadPhase, LoadState}
-use Rattle.index_machine.specs.Conditions.{Valid}
-use Rattle.index_machine.specs.Execution.{Continues, Execution}
+use Rattle.index_machine.specs.Execution.{Execution}
+use Rattle.index_machine.specs.KeyRanges.{group_of}
 use Rattle.index_machine.specs.LivePlaces.{value_in_map}
-use Rattle.index_machine.specs.Openings.{opening_group}
 use Rattle.index_machine.specs.Reaching.{saw_open}
 use Rattle.index_machine.specs.Rows.{Holds}
 use Rattle.index_machine.specs.Words.{limits, link_behind}
@@ -23,8 +22,7 @@ use Rattle.index_rule.specs.declared.tried.Tried.{Tried}
 use Rattle.index_rule.specs.declared.tried.Tried.TheVariants as tried
 use Rattle.index_rule.specs.declared.tried.Why.{Why}
 use Rattle.index_rule.specs.declared.tried.Why.TheVariants as why
-use Rattle.index_rule.specs.Built.{AreBuilt}
-use Rattle.index_rule.specs.Hands.{IsHandOf, known, opening_of}
+use Rattle.index_rule.specs.Hands.{known, opening_of}
 use Rattle.index_rule.specs.Moments.{AddsChange, AddsNoEntry, IsWithin}
 use Rattle.row_arena.specs.Fullness.{RowsAreUsedUp}
 use Rattle.delta_buffer.specs.Searching.{BelongsBetween, CanSearch, FindsGap, IsReachedRow}
@@ -33,23 +31,17 @@ use Rattle.record_cell.specs.Conditions.{IsTombstoneState}
 use Rattle.point_calls.specs.declared.found.FoundRow.{FoundRow}
 use Rattle.point_calls.specs.declared.found.Gap.{Gap}
 use Rattle.point_calls.specs.Changing.{LosesLock, MeetsLast}
-use Rattle.point_calls.specs.PointCalls.{HasSpare, IsOneSection, KeepsRows, MakesAt, MakesThen}
+use Rattle.point_calls.specs.PointCalls.{HasSpare, IsCallSoFar, KeepsRows, MakesAt, MakesThen}
 use Rattle.point_calls.specs.PointCalls.{MeetsChange, MeetsLock}
 
 -- ---- within its group ----
 
--- in the call that began so the caller came to the group of the key, and has added no entry
+-- in the call so far the caller came to the group of the key
 pub record IsInGroupOf (b : Board) (start h : Hand) (group key : ℕ) : Type 0 where
-  pub began : IsHandOf b start
-  pub search : CanSearch b group h
-  pub own : opening_group (opening_of b) key ≡ group
-  pub number : h.number ≡ start.number
-  pub within : IsWithin start h (known h)
-  pub valid : Valid (opening_of b) (known h)
-  pub built : AreBuilt (known h)
-  pub no_entry : AddsNoEntry start h
+  pub call : IsCallSoFar b start h
   pub rows : KeepsRows b start h
-  pub section : IsOneSection start h
+  pub search : CanSearch b group h
+  pub own : group_of (opening_of b) key (known h) ≡ group
 
 -- it found the row of the key there
 pub record HasFoundRow (b : Board) (start h : Hand) (found : FoundRow) : Type 0 where
@@ -135,18 +127,12 @@ KeepsSpare old answer new = answer ≢ tried.Done None → IsSome old → IsSome
 
 -- ---- a new row ----
 
--- the caller saw the group of the key open, where the key belongs into this gap: it loaded the link there,
--- where it has stored nothing since, and the key had no row at a moment of its call
+-- in the call so far the caller saw the group of the key open, where the key belongs into this gap: it
+-- loaded the link there, where it has stored nothing since, and the key had no row at a moment
 pub record MayLinkIn (b : Board) (start h : Hand) (gap : Gap) : Type 0 where
-  pub began : IsHandOf b start
+  pub call : IsCallSoFar b start h
   pub search : CanSearch b gap.group h
-  pub own : opening_group (opening_of b) gap.key ≡ gap.group
-  pub number : h.number ≡ start.number
-  pub within : IsWithin start h (known h)
-  pub since : Continues (known start) (known h)
-  pub valid : Valid (opening_of b) (known h)
-  pub built : AreBuilt (known h)
-  pub no_entry : AddsNoEntry start h
+  pub own : group_of (opening_of b) gap.key (known h) ≡ gap.group
   pub moment : Execution
   pub moment_within : IsWithin start h moment
   pub absent : look (rows gap.group moment) gap.key ≡ None
@@ -154,7 +140,6 @@ pub record MayLinkIn (b : Board) (start h : Hand) (gap : Gap) : Type 0 where
       (load_of_link gap.group gap.before gap.next) h
   pub between : BelongsBetween (opening_of b) gap.group gap.key gap.before gap.next (known h)
   pub seen : saw_open h.number gap.group (known h) ≡ true
-  pub section : IsOneSection start h
 
 -- no row could be taken, and there was no spare one: none was free, or the exchange of the head was lost
 abbrev pub GetsNoRow : Board → ℕ → Hand → Option PrivateRow → Tried (Option ℕ) → Hand → Type 0

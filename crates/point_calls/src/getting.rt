@@ -1,6 +1,7 @@
 //! A key is looked up.
 ghost use Rattle.std.specs.Prelude.{◌≡◌};
 ghost use Rattle.index_rule.specs.Calls.{CanCall};
+ghost use Rattle.point_calls.specs.Exchanges.{MakesFewExchanges, no_exchange};
 ghost use Rattle.point_calls.specs.PointCalls.{IsOneSection, KeepsRows, OpensEmpty};
 ghost use Rattle.point_calls.specs.Getting.{GetTells};
 
@@ -21,6 +22,7 @@ pub fn get(board: &Board, hand: &mut Hand, key: u64) -> Tried<Option<u64>>
     ensures number { hand.new.number ≡ hand.old.number }
     ensures section { IsOneSection hand.old hand.new }
     ensures rows { KeepsRows board.now hand.old hand.new }
+    ensures exchanges { MakesFewExchanges no_exchange hand.old hand.new }
     ensures tells { GetTells board.now key hand.old result hand.new }
 {
     let start = Snapshot::of(&*hand);

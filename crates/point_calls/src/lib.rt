@@ -12,8 +12,6 @@ mod overwriting;
 mod putting;
 mod refusing;
 mod removing;
-#[cfg(test)]
-mod tests;
 
 pub use getting::get;
 pub use putting::put;

@@ -1,6 +1,7 @@
 //! A new row for a key is linked.
 ghost use Rattle.std.specs.Prelude.{◌≡◌, MatchResult, None, Some};
 ghost use Rattle.index_rule.specs.Calls.{CanCall};
+ghost use Rattle.point_calls.specs.Exchanges.{MakesFewExchanges, one_head, one_head_and_link};
 ghost use Rattle.point_calls.specs.PointCalls.{HasSpare, IsOneSection, OpensEmpty};
 ghost use Rattle.point_calls.specs.Putting.{HasFoundGap, IsFullOnly, MayLinkIn, PutTells};
 ghost use Rattle.point_calls.specs.Putting.{GetsNoRow, KeepsSpare};
@@ -29,6 +30,7 @@ pub(crate) fn link_new(
     ensures call { CanCall board.now hand.new }
     ensures number { hand.new.number ≡ start.now.value.number }
     ensures section { IsOneSection start.now.value hand.new }
+    ensures exchanges { MakesFewExchanges one_head_and_link hand.old hand.new }
     ensures spare { HasSpare board.now hand.new spare.new }
     ensures tells { PutTells board.now gap.key value start.now.value result hand.new }
     ensures full { IsFullOnly spare.old result }
@@ -74,6 +76,7 @@ fn own_row(
     requires may { MayLinkIn board.now start.now.value hand.old gap }
     ensures gone { spare.new ≡ None }
     ensures may { MayLinkIn board.now start.now.value hand.new gap }
+    ensures exchanges { MakesFewExchanges one_head hand.old hand.new }
     ensures answer { MatchResult result (λ row. HasSpare board.now hand.new (Some row))
         (λ refusal. GetsNoRow board.now gap.key start.now.value spare.old refusal hand.new) }
 {

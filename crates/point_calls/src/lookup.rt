@@ -3,6 +3,7 @@ ghost use Rattle.std.specs.Prelude.{◌≡◌, None};
 ghost use Rattle.index_rule.specs.Looks.{MayWriteLook};
 ghost use Rattle.index_rule.specs.declared.tried.Tried.TheVariants.{Done};
 ghost use Rattle.index_rule.specs.Calls.{CanCall};
+ghost use Rattle.point_calls.specs.Exchanges.{MakesFewExchanges, no_exchange};
 ghost use Rattle.point_calls.specs.PointCalls.{IsOneSection, KeepsRows, LooksUp};
 ghost use Rattle.point_calls.specs.Lookup.{ComesTo, HasMissed};
 
@@ -34,6 +35,7 @@ pub(crate) fn miss(
     ensures call { CanCall board.now hand.new }
     ensures number { hand.new.number ≡ start.now.value.number }
     ensures section { IsOneSection start.now.value hand.new }
+    ensures exchanges { MakesFewExchanges no_exchange hand.old hand.new }
     ensures rows { KeepsRows board.now start.now.value hand.new }
     ensures done { result ≡ Done None }
     ensures looks { LooksUp board.now key start.now.value None hand.new }
@@ -59,6 +61,7 @@ pub(crate) fn look(
     ensures call { CanCall board.now hand.new }
     ensures number { hand.new.number ≡ start.now.value.number }
     ensures section { IsOneSection start.now.value hand.new }
+    ensures exchanges { MakesFewExchanges no_exchange hand.old hand.new }
     ensures rows { KeepsRows board.now start.now.value hand.new }
     ensures done { result ≡ Done found }
     ensures looks { LooksUp board.now key start.now.value found hand.new }

@@ -2,6 +2,7 @@
 ghost use Rattle.std.specs.Prelude.{◌≡◌, ◌≢◌};
 ghost use Rattle.index_rule.specs.declared.tried.Tried.TheVariants.{Full};
 ghost use Rattle.index_rule.specs.Calls.{CanCall};
+ghost use Rattle.point_calls.specs.Exchanges.{MakesFewExchanges, one_lock};
 ghost use Rattle.point_calls.specs.PointCalls.{IsOneSection, KeepsRows, OpensEmpty};
 ghost use Rattle.point_calls.specs.Putting.{HasFoundRow, HasFoundTombstone, PutTells};
 
@@ -25,6 +26,7 @@ pub(crate) fn overwrite(
     ensures call { CanCall board.now hand.new }
     ensures number { hand.new.number ≡ start.now.value.number }
     ensures section { IsOneSection start.now.value hand.new }
+    ensures exchanges { MakesFewExchanges one_lock hand.old hand.new }
     ensures rows { KeepsRows board.now start.now.value hand.new }
     ensures tells { PutTells board.now row.key value start.now.value result hand.new }
     ensures not_full { result ≢ Full }
@@ -51,6 +53,7 @@ fn bring_back(
     ensures call { CanCall board.now hand.new }
     ensures number { hand.new.number ≡ start.now.value.number }
     ensures section { IsOneSection start.now.value hand.new }
+    ensures exchanges { MakesFewExchanges one_lock hand.old hand.new }
     ensures rows { KeepsRows board.now start.now.value hand.new }
     ensures tells { PutTells board.now row.key value start.now.value result hand.new }
     ensures not_full { result ≢ Full }

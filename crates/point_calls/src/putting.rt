@@ -1,6 +1,7 @@
 //! A key is put.
 ghost use Rattle.std.specs.Prelude.{◌≡◌};
 ghost use Rattle.index_rule.specs.Calls.{CanCall};
+ghost use Rattle.point_calls.specs.Exchanges.{MakesFewExchanges, one_of_each};
 ghost use Rattle.point_calls.specs.PointCalls.{HasSpare, IsOneSection, OpensEmpty};
 ghost use Rattle.point_calls.specs.Putting.{IsFullOnly, KeepsSpare, PutTells};
 
@@ -29,6 +30,7 @@ pub fn put(
     ensures call { CanCall board.now hand.new }
     ensures number { hand.new.number ≡ hand.old.number }
     ensures section { IsOneSection hand.old hand.new }
+    ensures exchanges { MakesFewExchanges one_of_each hand.old hand.new }
     ensures spare { HasSpare board.now hand.new spare.new }
     ensures tells { PutTells board.now key value hand.old result hand.new }
     ensures full { IsFullOnly spare.old result }

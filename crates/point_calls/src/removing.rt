@@ -1,6 +1,7 @@
 //! A key is removed.
 ghost use Rattle.std.specs.Prelude.{◌≡◌};
 ghost use Rattle.index_rule.specs.Calls.{CanCall};
+ghost use Rattle.point_calls.specs.Exchanges.{MakesFewExchanges, one_lock};
 ghost use Rattle.point_calls.specs.PointCalls.{IsOneSection, KeepsRows, OpensEmpty};
 ghost use Rattle.point_calls.specs.Removing.{RemoveTells};
 
@@ -22,6 +23,7 @@ pub fn remove(board: &Board, hand: &mut Hand, key: u64) -> Tried<Option<u64>>
     ensures number { hand.new.number ≡ hand.old.number }
     ensures section { IsOneSection hand.old hand.new }
     ensures rows { KeepsRows board.now hand.old hand.new }
+    ensures exchanges { MakesFewExchanges one_lock hand.old hand.new }
     ensures tells { RemoveTells board.now key hand.old result hand.new }
 {
     let start = Snapshot::of(&*hand);

@@ -85,6 +85,3 @@ fn passes(mark: u64, word: u64) -> bool
 {
     word % 2 == 0 || word != mark
 }
-
-#[cfg(test)]
-mod tests;

@@ -2,6 +2,5 @@ pub mod Found
 pub mod Told
 pub mod Locked
 pub mod Changed
-pub mod Entering
 pub mod Revivable
 pub mod Revived

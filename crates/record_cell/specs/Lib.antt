@@ -3,5 +3,4 @@ pub mod Finding
 pub mod Reads
 pub mod Writes
 pub mod Locking
-pub mod Visits
 pub mod Reviving

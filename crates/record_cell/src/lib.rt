@@ -10,8 +10,6 @@ mod finding;
 mod laws;
 mod reading;
 mod reviving;
-#[cfg(test)]
-mod tests;
 
 pub use answers::{Read, Wrote};
 pub use changing::{kill, update};

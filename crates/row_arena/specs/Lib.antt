@@ -1,4 +1,3 @@
 pub mod Taking
 pub mod Giving
-pub mod Visits
 pub mod Fullness

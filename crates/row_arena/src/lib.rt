@@ -4,8 +4,6 @@
 mod giving;
 mod laws;
 mod taking;
-#[cfg(test)]
-mod tests;
 
 pub use giving::{Given, give};
 pub use laws::{no_free_row_means_used_up, used_up_rows_stay_so};

@@ -6,7 +6,7 @@ use Rattle.index_rule.specs.declared.view.View.{View}
 use Rattle.index_rule.specs.Hands.{IsHandOf, known, view}
 use Rattle.index_rule.specs.Seats.{new_hand}
 use Rattle.index_machine.specs.Sections.{IsCaller, IsOutside}
-use Rattle.row_arena.proofs.NewHands.{none_first}
+use Rattle.index_rule.proofs.NewHands.{none_first}
 use Rattle.xindex_core.specs.declared.index.Index.{Index}
 use Rattle.xindex_core.specs.declared.pass.Pass.{Pass}
 use Rattle.xindex_core.specs.Callers.{IsTruthful}

@@ -14,6 +14,8 @@ use Rattle.index_rule.specs.declared.rows.PrivateRow.{PrivateRow}
 use Rattle.index_rule.specs.declared.tried.Tried.{Tried}
 use Rattle.index_rule.specs.declared.tried.Tried.TheVariants as tried
 use Rattle.index_rule.specs.Hands.{Makes, known}
+use Rattle.point_calls.specs.Exchanges.{ExchangeCounts, MakesFewExchanges}
+use Rattle.point_calls.specs.Exchanges.{no_exchange, one_lock, one_of_each}
 use Rattle.point_calls.specs.Getting.{GetTells}
 use Rattle.point_calls.specs.PointCalls.{IsOneSection}
 use Rattle.point_calls.specs.Putting.{KeepsSpare, PutTells}
@@ -49,14 +51,16 @@ EndsAs old made came new =
 
 -- ---- steps ----
 
--- the hand entered, did this within the one read section, and left
-pub record EntersAndLeaves (i : Index) (old : Pass) (Does : Hand → Hand → Type 0) (new : Pass)
-    : Type 0 where
+-- the hand entered, did this within the one read section, where it made no more exchanges than these, and
+-- left
+pub record EntersAndLeaves (i : Index) (old : Pass) (most : ExchangeCounts)
+    (Does : Hand → Hand → Type 0) (new : Pass) : Type 0 where
   pub inside : Hand
   pub done : Hand
   pub enters : Makes i.board old.hand (Enter (next_epoch old.hand.number (known old.hand))) inside
   pub section : IsOneSection inside done
   pub does : Does inside done
+  pub exchanges : MakesFewExchanges most inside done
   pub leaves : Makes i.board done (Leave (next_epoch done.number (known done))) new.hand
 
 -- what the call tells of its steps, within its read section
@@ -65,6 +69,14 @@ StepsTell b (call.Get key) h came k = GetTells b key h came k
 StepsTell b (call.Next from) h came k = GetTells b from h came k
 StepsTell b (call.Put key value) h came k = PutTells b key value h came k
 StepsTell b (call.Remove key) h came k = RemoveTells b key h came k
+
+-- how many exchanges the call makes at most: a get none, a remove one of a version lock, and a put one of
+-- a version lock, one of the head of the free stack and one of a link
+abbrev pub most_exchanges : Call → ExchangeCounts
+most_exchanges (call.Get key) = no_exchange
+most_exchanges (call.Next from) = no_exchange
+most_exchanges (call.Put key value) = one_of_each
+most_exchanges (call.Remove key) = one_lock
 
 -- ---- the spare row ----
 
@@ -83,6 +95,6 @@ pub record Tries (i : Index) (old : Pass) (made : Call) (came : Tried (Option �
     : Type 0 where
   pub later : IsLater (caller_with i old) (caller_with i new)
   pub ends : EndsAs (caller_with i old) made came (caller_with i new)
-  pub steps : EntersAndLeaves i old (λ h k. StepsTell i.board made h came k) new
+  pub steps : EntersAndLeaves i old (most_exchanges made) (λ h k. StepsTell i.board made h came k) new
   pub full : came ≡ tried.Full → spare_of old ≡ None
   pub spare : SpareBecomes made (spare_of old) came (spare_of new)

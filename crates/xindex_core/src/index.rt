@@ -8,6 +8,8 @@ use crate::keeper::Keeper;
 use crate::pass::Pass;
 use index_rule::Board;
 use std::alloc::AllocError;
+use std::error::Error;
+use std::fmt;
 
 /// An ordered index from u64 keys to u64 values, which many threads share by reference.
 ///
@@ -35,6 +37,17 @@ pub enum OpenError {
     /// There was not enough memory.
     Memory,
 }
+
+impl fmt::Display for OpenError {
+    fn fmt<W: fmt::Write>(&self, f: &mut fmt::Formatter<W>) -> fmt::Result {
+        match self {
+            OpenError::BadLimit { number } => write!(f, "bad limit {number}"),
+            OpenError::Memory => write!(f, "out of memory"),
+        }
+    }
+}
+
+impl Error for OpenError {}
 
 impl From<AllocError> for OpenError {
     ghost use Rattle.std.specs.Prelude.{◌≡◌};

@@ -14,8 +14,6 @@ mod naming;
 mod opening;
 mod pass;
 mod telling;
-#[cfg(test)]
-mod tests;
 mod waiter;
 
 pub use index::{Index, OpenError, Opened};

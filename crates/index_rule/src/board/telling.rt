@@ -44,6 +44,3 @@ impl Board {
             .load::<SettlesHeard>(&mut hand.seat, address);
     }
 }
-
-#[cfg(test)]
-mod tests;

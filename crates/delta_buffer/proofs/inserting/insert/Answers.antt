@@ -11,7 +11,7 @@ use Rattle.delta_buffer.proofs.inserting.insert.Goals as goal
 
 pub link_word-link-requires : goal.link_word-link-requires
 link_word-link-requires c =
-    let below = held_below c.args.board.now c.args.hand.now _ c.requires.search.of
+    let below = held_below c.args.board.now c.args.hand.now _ c.requires.search.call.of
     c.requires.may.filled.held in
     let same = c.place.ensures in
     omega arith
@@ -19,7 +19,7 @@ link_word-link-requires c =
 pub store_private-requires-clause-fits : goal.store_private-requires-clause-fits
 store_private-requires-clause-fits c =
     fits_each (limits (opening_of c.args.board.now)) _ c.args.next (row_ahead_of c.args.board.now c.args.hand.now c.args.group _ c.args.next
-    c.requires.search.of c.requires.may.between.1)
+    c.requires.search.call.of c.requires.may.between.1)
 
 pub swap_link-requires-clause-may : goal.swap_link-requires-clause-may
 swap_link-requires-clause-may c =

@@ -1,40 +1,31 @@
 use Rattle.std.proofs.Common.{ℕ, ◌≤◌, Option, Some, None, sym, ◌∙◌, subst, arith}
 use Rattle.index_machine.specs.Openings.{greatest_key}
 use Rattle.index_rule.specs.declared.hand.Hand.{Hand}
-use Rattle.index_rule.specs.Hands.{known, opening_of}
 use Rattle.index_rule.specs.declared.tried.Tried.{Tried}
 use Rattle.index_rule.specs.Looks.{MayWriteLook}
 use Rattle.point_calls.specs.Getting.{GetTells}
 use Rattle.point_calls.specs.Lookup.{HasMissed}
 use Rattle.point_calls.specs.PointCalls.{IsOneSection, KeepsRows, LooksUp}
-use Rattle.point_calls.proofs.Knowing.{built_at, in_walk, valid_at, within_whole}
-use Rattle.point_calls.proofs.Missing.{gap_absent, group_opened, in_comes, missed}
+use Rattle.point_calls.proofs.Knowing.{in_walk}
+use Rattle.point_calls.proofs.Missing.{group_reached, in_comes, missed_gap}
 use Rattle.point_calls.proofs.RowReading.{in_again, in_found, may_note, meets_change, meets_lock}
 use Rattle.point_calls.proofs.RowReading.{missed_stone, ready_row}
+use Rattle.point_calls.specs.Exchanges.{no_exchange}
+use Rattle.point_calls.proofs.Exchanging.{few_behind, none_before, none_in_read}
 use Rattle.point_calls.proofs.getting.get.Goals as goal
 
 pub miss-requires : goal.miss-requires
 miss-requires c =
     let b = c.args.board.now in
     let h = c.args.hand.now in
-    let l = c.locate-group.new.hand in
-    let k = c.find.new.hand in
     let g : ℕ = c.locate-group.result in
     let key : ℕ = c.args.key in
     let most : key ≤ greatest_key = omega arith in
-    let comes = c.locate-group.ensures.comes in
-    let il = in_comes b h l g c.requires.call.of comes in
-    let w = c.find.ensures.steps in
-    let ik = in_walk b g h l w.0 k w.1 w.2 il in
-    let own = group_opened b h l g key comes il.built most in
-    let gap = c.in_default.ensures.finds in
-    let on = gap.within.5 in
-    subst (λ (z : Hand). HasMissed b z k g key) (sym c.of-start.ensures)
-    (missed b h k g key c.requires.call.of ik c.find.ensures.search
-    (c.find.ensures.log ∙ comes.no_entry) own gap.moment (within_whole b h l k gap.moment il gap.within)
-    (gap_absent (opening_of b) gap.moment c.requires.empty
-    (valid_at b gap.moment (known k) on ik.valid) (built_at gap.moment (known k) on ik.built) key g
-    own gap.absent))
+    let f = c.find.ensures in
+    subst (λ (z : Hand). HasMissed b z c.find.new.hand g key) (sym c.of-start.ensures)
+    (missed_gap b h c.locate-group.new.hand c.find.new.hand g key _ _
+    c.requires.call.of c.requires.empty most c.locate-group.ensures.comes f.steps f.search f.log
+    c.in_default.ensures.finds)
 
 pub read-requires : goal.read-requires
 read-requires c =
@@ -112,7 +103,7 @@ miss-requires-in-Gone c =
     (missed_stone b h n g key c.in-Row.place i c.find.ensures.search c.in-Row.ensures.finds k s.0 s.1
     s.2 c.requires.call.of c.requires.empty
     (c.read.ensures.log ∙ (c.find.ensures.log ∙ comes.no_entry))
-    (group_opened b h l g key comes il.built most) c.in-Gone.ensures.tells)
+    (group_reached b h l n g key comes il i most) c.in-Gone.ensures.tells)
 
 pub returns-in-Locked-clause-section : goal.returns-in-Locked-clause-section
 returns-in-Locked-clause-section c =
@@ -210,3 +201,67 @@ returns-in-Gone-clause-tells c =
     let e = c.miss-in-Gone.ensures in
     subst (λ (z : Tried (Option ℕ)). GetTells b c.args.key c.args.hand.now z k) (sym e.done)
     (subst (λ (z : Hand). LooksUp b c.args.key z None k) c.of-start.ensures e.looks)
+
+pub returns-in_default-clause-exchanges : goal.returns-in_default-clause-exchanges
+returns-in_default-clause-exchanges c =
+    let b = c.args.board.now in
+    let h = c.args.hand.now in
+    let l = c.locate-group.new.hand in
+    let n = c.find.new.hand in
+    let g : ℕ = c.locate-group.result in
+    let comes = c.locate-group.ensures.comes in
+    let f = c.find.ensures in
+    few_behind no_exchange h n c.miss.new.hand (none_before b h l n g c.requires.call.of comes f.steps)
+    c.miss.ensures.exchanges
+
+pub returns-in-Live-clause-exchanges : goal.returns-in-Live-clause-exchanges
+returns-in-Live-clause-exchanges c =
+    let b = c.args.board.now in
+    let h = c.args.hand.now in
+    let l = c.locate-group.new.hand in
+    let n = c.find.new.hand in
+    let g : ℕ = c.locate-group.result in
+    let comes = c.locate-group.ensures.comes in
+    let f = c.find.ensures in
+    few_behind no_exchange h c.read.new.hand c.look.new.hand
+    (none_in_read b h l n g c.in-Row.place c.read.result c.read.new.hand c.requires.call.of comes
+    f.steps f.search.call.of c.read.ensures.steps)
+    c.look.ensures.exchanges
+
+pub returns-in-Gone-clause-exchanges : goal.returns-in-Gone-clause-exchanges
+returns-in-Gone-clause-exchanges c =
+    let b = c.args.board.now in
+    let h = c.args.hand.now in
+    let l = c.locate-group.new.hand in
+    let n = c.find.new.hand in
+    let g : ℕ = c.locate-group.result in
+    let comes = c.locate-group.ensures.comes in
+    let f = c.find.ensures in
+    few_behind no_exchange h c.read.new.hand c.miss-in-Gone.new.hand
+    (none_in_read b h l n g c.in-Row.place c.read.result c.read.new.hand c.requires.call.of comes
+    f.steps f.search.call.of c.read.ensures.steps)
+    c.miss-in-Gone.ensures.exchanges
+
+pub returns-in-Locked-clause-exchanges : goal.returns-in-Locked-clause-exchanges
+returns-in-Locked-clause-exchanges c =
+    let b = c.args.board.now in
+    let h = c.args.hand.now in
+    let l = c.locate-group.new.hand in
+    let n = c.find.new.hand in
+    let g : ℕ = c.locate-group.result in
+    let comes = c.locate-group.ensures.comes in
+    let f = c.find.ensures in
+    none_in_read b h l n g c.in-Row.place c.read.result c.read.new.hand c.requires.call.of comes
+    f.steps f.search.call.of c.read.ensures.steps
+
+pub returns-clause-exchanges : goal.returns-clause-exchanges
+returns-clause-exchanges c =
+    let b = c.args.board.now in
+    let h = c.args.hand.now in
+    let l = c.locate-group.new.hand in
+    let n = c.find.new.hand in
+    let g : ℕ = c.locate-group.result in
+    let comes = c.locate-group.ensures.comes in
+    let f = c.find.ensures in
+    none_in_read b h l n g c.in-Row.place c.read.result c.read.new.hand c.requires.call.of comes
+    f.steps f.search.call.of c.read.ensures.steps

@@ -5,8 +5,10 @@ use Rattle.index_machine.specs.declared.events.Action.TheVariants.{PopFree}
 use Rattle.index_rule.specs.declared.hand.Hand.{Hand}
 use Rattle.index_rule.specs.Hands.{Makes}
 use Rattle.index_rule.specs.OwnRows.{place_of_private}
+use Rattle.point_calls.proofs.Knowing.{call_since}
 use Rattle.point_calls.proofs.LeftWords.{head_elsewhere, left_on, made_at, made_behind}
 use Rattle.point_calls.proofs.NewRows.{is_missing, made_there, may_on}
+use Rattle.point_calls.proofs.Exchanging.{take_makes_one}
 use Rattle.point_calls.proofs.linking.own_row.Goals as goal
 
 pub returns-in-Row-clause-may : goal.returns-in-Row-clause-may
@@ -116,12 +118,27 @@ returns-in-Raced-clause-answer c =
       record {
         is_address = c.free_head.ensures.address;
         steps = made_behind b h last k (LoadFree x) (FailPop x c.in-Raced.found) FreeHead
-            may2.number may2.search.of
-            (left_on b h one last (LoadFree x) (LoadFreeLink x s.2.0) FreeHead may1.number
-            may1.search.of tt all.1.2
-            (made_at b h n one (LoadFree x) FreeHead c.requires.may.since c.requires.may.number
-            c.requires.may.search.of loads))
+            may2.call.so_far.number may2.search.call.of
+            (left_on b h one last (LoadFree x) (LoadFreeLink x s.2.0) FreeHead may1.call.so_far.number
+            may1.search.call.of tt all.1.2
+            (made_at b h n one (LoadFree x) FreeHead (call_since b h n c.requires.may.call)
+            c.requires.may.call.so_far.number c.requires.may.search.call.of loads))
             all.2;
         differ = s.1;
       },
     )
+
+pub returns-in-Row-clause-exchanges : goal.returns-in-Row-clause-exchanges
+returns-in-Row-clause-exchanges c =
+    take_makes_one c.args.board.now c.args.hand.now c.take-in-None.result c.take-in-None.new.hand
+    c.requires.may.search.call.of c.take-in-None.ensures.steps
+
+pub returns-in-Empty-clause-exchanges : goal.returns-in-Empty-clause-exchanges
+returns-in-Empty-clause-exchanges c =
+    take_makes_one c.args.board.now c.args.hand.now c.take-in-None.result c.take-in-None.new.hand
+    c.requires.may.search.call.of c.take-in-None.ensures.steps
+
+pub returns-in-Raced-clause-exchanges : goal.returns-in-Raced-clause-exchanges
+returns-in-Raced-clause-exchanges c =
+    take_makes_one c.args.board.now c.args.hand.now c.take-in-None.result c.take-in-None.new.hand
+    c.requires.may.search.call.of c.take-in-None.ensures.steps

@@ -1,4 +1,5 @@
 use Rattle.std.proofs.Common.{◌∙◌, refl}
+use Rattle.point_calls.proofs.Exchanging.{look_makes_none}
 use Rattle.point_calls.proofs.Knowing.{call_with_look, looked_up, section_with_look, spare_with_look}
 use Rattle.point_calls.proofs.lookup.look.Goals as goal
 
@@ -11,12 +12,13 @@ returns c =
     let e = c.write_look.ensures in
     record {
       call = call_with_look b start h k c.args.key c.args.found e.written e.number e.hand c.requires.call;
-      number = e.number ∙ c.requires.may.number;
+      number = e.number ∙ c.requires.may.so_far.number;
       section = section_with_look b start h k c.args.key c.args.found e.written e.number
           c.requires.section;
+      exchanges = look_makes_none b start h k c.args.key c.args.found e.written e.number;
       rows = λ spare has. spare_with_look b start h k c.args.key c.args.found e.written e.number spare
           (c.requires.rows spare has);
       done = refl;
       looks = looked_up b start h k c.args.key c.args.found e.written e.number
-          c.requires.may.no_entry;
+          c.requires.may.so_far.no_entry;
     }

@@ -1,6 +1,6 @@
-use Rattle.std.proofs.Common.{ℕ, rules, ◌∙◌}
+use Rattle.std.proofs.Common.{ℕ, refl, rules, ◌∙◌}
 use Rattle.map_model.specs.declared.entries.Change.TheVariants.{Put}
-use Rattle.index_machine.specs.declared.events.Action.TheVariants.{LoadState}
+use Rattle.index_machine.specs.declared.events.Action.TheVariants.{LoadPhase, LoadState}
 use Rattle.record_cell.specs.Writes.{put_at}
 use Rattle.point_calls.proofs.Knowing.{adds_whole, in_step}
 use Rattle.point_calls.proofs.RowChanging.{put_is}
@@ -8,6 +8,8 @@ use Rattle.point_calls.proofs.RowReading.{ready_row}
 use Rattle.point_calls.proofs.RowPutting.{group_seen, in_revived, is_in, may_revive}
 use Rattle.point_calls.proofs.RowPutting.{row_seen, sees_phase, was_alive}
 use Rattle.point_calls.proofs.Refusals.{in_refused, is_refusal, put_tells, revival_refused}
+use Rattle.point_calls.specs.Exchanges.{one_lock}
+use Rattle.point_calls.proofs.Exchanging.{few_behind, none_by, revival_makes_one}
 use Rattle.point_calls.proofs.overwriting.bring_back.Goals as goal
 
 pub load_phase-requires-clause-may : goal.load_phase-requires-clause-may
@@ -30,7 +32,7 @@ revive-requires-clause-ready c =
     let seen = group_seen b h before n g key c.load_phase.result at m in
     let row = row_seen b h before n g key c.load_phase.result at m place stone.found.row in
     let can = seen.search in
-    let none = seen.no_entry in
+    let none = seen.call.so_far.no_entry in
     let i = is_in b h n g key seen in
     ready_row b g key place n can row
 
@@ -49,7 +51,7 @@ revive-requires-clause-may c =
     let seen = group_seen b h before n g key c.load_phase.result at m in
     let row = row_seen b h before n g key c.load_phase.result at m place stone.found.row in
     let can = seen.search in
-    let none = seen.no_entry in
+    let none = seen.call.so_far.no_entry in
     let i = is_in b h n g key seen in
     may_revive b h before n g key c.load_phase.result at m place c.requires.empty stone.found.row
 
@@ -69,7 +71,7 @@ returns-in-Done-clause-section c =
     let seen = group_seen b h before n g key c.load_phase.result at m in
     let row = row_seen b h before n g key c.load_phase.result at m place stone.found.row in
     let can = seen.search in
-    let none = seen.no_entry in
+    let none = seen.call.so_far.no_entry in
     let i = is_in b h n g key seen in
     (in_revived b h n g key place seen k c.args.value c.in-Done.old c.in-Done.ensures.steps).section
 
@@ -89,7 +91,7 @@ returns-in-Done-clause-rows c =
     let seen = group_seen b h before n g key c.load_phase.result at m in
     let row = row_seen b h before n g key c.load_phase.result at m place stone.found.row in
     let can = seen.search in
-    let none = seen.no_entry in
+    let none = seen.call.so_far.no_entry in
     let i = is_in b h n g key seen in
     (in_revived b h n g key place seen k c.args.value c.in-Done.old c.in-Done.ensures.steps).rows
 
@@ -109,7 +111,7 @@ returns-in-Done-clause-tells c =
     let seen = group_seen b h before n g key c.load_phase.result at m in
     let row = row_seen b h before n g key c.load_phase.result at m place stone.found.row in
     let can = seen.search in
-    let none = seen.no_entry in
+    let none = seen.call.so_far.no_entry in
     let i = is_in b h n g key seen in
     adds_whole b h n k (put_at b n place c.args.value) (Put h.number key c.args.value) c.in-Done.old i none
     (put_is b h n g key place i can row c.args.value) c.in-Done.ensures.tells
@@ -130,7 +132,7 @@ returns-in-Live-clause-section c =
     let seen = group_seen b h before n g key c.load_phase.result at m in
     let row = row_seen b h before n g key c.load_phase.result at m place stone.found.row in
     let can = seen.search in
-    let none = seen.no_entry in
+    let none = seen.call.so_far.no_entry in
     let i = is_in b h n g key seen in
     (in_step b h n k (LoadState place c.in-Live.word) tt tt c.in-Live.ensures.steps.0 i).section
 
@@ -150,7 +152,7 @@ returns-in-Live-clause-rows c =
     let seen = group_seen b h before n g key c.load_phase.result at m in
     let row = row_seen b h before n g key c.load_phase.result at m place stone.found.row in
     let can = seen.search in
-    let none = seen.no_entry in
+    let none = seen.call.so_far.no_entry in
     let i = is_in b h n g key seen in
     (in_step b h n k (LoadState place c.in-Live.word) tt tt c.in-Live.ensures.steps.0 i).rows
 
@@ -170,7 +172,7 @@ returns-in-Live-clause-tells c =
     let seen = group_seen b h before n g key c.load_phase.result at m in
     let row = row_seen b h before n g key c.load_phase.result at m place stone.found.row in
     let can = seen.search in
-    let none = seen.no_entry in
+    let none = seen.call.so_far.no_entry in
     let i = is_in b h n g key seen in
     let s = c.in-Live.ensures.steps in (
       c.in-Live.ensures.tells.0 ∙ none,
@@ -218,12 +220,39 @@ returns-in_default c =
     c.revive.ensures.tells c.in_default.not-Done c.in_default.not-Live in
     let ik = in_refused b h n g key place i seen.search row k w refused in
     let tells = put_tells b h n g key place i seen.search row k c.args.value w c.refused.result
-    seen.no_entry refused c.refused.ensures in
+    seen.call.so_far.no_entry refused c.refused.ensures in
     record {
       call = search rules;
       number = ik.number;
       section = ik.section;
+      exchanges = few_behind one_lock before n k
+          (none_by b before (LoadPhase g c.load_phase.result) n at.search.call.of m refl refl refl)
+          (revival_makes_one b n place c.args.value w k m.of c.revive.ensures.steps);
       rows = ik.rows;
       tells = tells;
       not_full = search rules;
     }
+
+pub returns-in-Done-clause-exchanges : goal.returns-in-Done-clause-exchanges
+returns-in-Done-clause-exchanges c =
+    let b = c.args.board.now in
+    let before = c.args.hand.now in
+    let n = c.load_phase.new.hand in
+    let m = c.load_phase.ensures in
+    few_behind one_lock before n c.revive.new.hand
+    (none_by b before (LoadPhase c.args.row.group c.load_phase.result) n
+    c.requires.found.found.group_of.search.call.of m refl refl refl)
+    (revival_makes_one b n c.args.row.place c.args.value c.revive.result c.revive.new.hand m.of
+    c.revive.ensures.steps)
+
+pub returns-in-Live-clause-exchanges : goal.returns-in-Live-clause-exchanges
+returns-in-Live-clause-exchanges c =
+    let b = c.args.board.now in
+    let before = c.args.hand.now in
+    let n = c.load_phase.new.hand in
+    let m = c.load_phase.ensures in
+    few_behind one_lock before n c.revive.new.hand
+    (none_by b before (LoadPhase c.args.row.group c.load_phase.result) n
+    c.requires.found.found.group_of.search.call.of m refl refl refl)
+    (revival_makes_one b n c.args.row.place c.args.value c.revive.result c.revive.new.hand m.of
+    c.revive.ensures.steps)

@@ -6,6 +6,8 @@ use Rattle.point_calls.proofs.RowChanging.{in_done, put_is}
 use Rattle.point_calls.proofs.RowReading.{ready_row}
 use Rattle.point_calls.proofs.RowPutting.{found_stone, is_in}
 use Rattle.point_calls.proofs.Refusals.{in_refused, is_refusal, put_tells, write_refused}
+use Rattle.point_calls.specs.Exchanges.{one_lock}
+use Rattle.point_calls.proofs.Exchanging.{few_behind, gone_makes_none, write_makes_one}
 use Rattle.point_calls.proofs.overwriting.overwrite.Goals as goal
 
 pub update-requires : goal.update-requires
@@ -19,7 +21,7 @@ update-requires c =
     let found = c.requires.found in
     let can = found.group_of.search in
     let row = found.row in
-    let none = found.group_of.no_entry in
+    let none = found.group_of.call.so_far.no_entry in
     let i = is_in b h n g key found.group_of in
     ready_row b g key place n can row
 
@@ -35,7 +37,7 @@ bring_back-requires-clause-found c =
     let found = c.requires.found in
     let can = found.group_of.search in
     let row = found.row in
-    let none = found.group_of.no_entry in
+    let none = found.group_of.call.so_far.no_entry in
     let i = is_in b h n g key found.group_of in
     let s = c.in-Gone.ensures.steps in
     found_stone b h n k c.args.row s.0 c.in-Gone.word found s.1 s.2 (c.in-Gone.ensures.tells.0 ∙ none)
@@ -52,7 +54,7 @@ returns-in-Done-clause-section c =
     let found = c.requires.found in
     let can = found.group_of.search in
     let row = found.row in
-    let none = found.group_of.no_entry in
+    let none = found.group_of.call.so_far.no_entry in
     let i = is_in b h n g key found.group_of in
     (in_done b h n g key place i can row k (put_at b n place c.args.value) c.in-Done.old
     c.in-Done.ensures.steps).section
@@ -69,7 +71,7 @@ returns-in-Done-clause-rows c =
     let found = c.requires.found in
     let can = found.group_of.search in
     let row = found.row in
-    let none = found.group_of.no_entry in
+    let none = found.group_of.call.so_far.no_entry in
     let i = is_in b h n g key found.group_of in
     (in_done b h n g key place i can row k (put_at b n place c.args.value) c.in-Done.old
     c.in-Done.ensures.steps).rows
@@ -86,7 +88,7 @@ returns-in-Done-clause-tells c =
     let found = c.requires.found in
     let can = found.group_of.search in
     let row = found.row in
-    let none = found.group_of.no_entry in
+    let none = found.group_of.call.so_far.no_entry in
     let i = is_in b h n g key found.group_of in
     adds_whole b h n k (put_at b n place c.args.value) (Put h.number key c.args.value) c.in-Done.old i none
     (put_is b h n g key place i can row c.args.value) c.in-Done.ensures.tells
@@ -122,12 +124,33 @@ returns-in_default c =
     c.update.ensures.tells c.in_default.not-Done c.in_default.not-Gone in
     let ik = in_refused b h n g key place i at.search row k w refused in
     let tells = put_tells b h n g key place i at.search row k c.args.value w c.refused.result
-    at.no_entry refused c.refused.ensures in
+    at.call.so_far.no_entry refused c.refused.ensures in
     record {
       call = search rules;
       number = ik.number;
       section = ik.section;
+      exchanges = write_makes_one b n place (put_at b n place c.args.value) w k at.search.call.of
+          c.update.ensures.steps;
       rows = ik.rows;
       tells = tells;
       not_full = search rules;
     }
+
+pub returns-in-Done-clause-exchanges : goal.returns-in-Done-clause-exchanges
+returns-in-Done-clause-exchanges c =
+    let b = c.args.board.now in
+    let n = c.args.hand.now in
+    let place : ℕ = c.args.row.place in
+    write_makes_one b n place (put_at b n place c.args.value) c.update.result c.update.new.hand
+    c.requires.found.group_of.search.call.of c.update.ensures.steps
+
+pub returns-in-Gone-clause-exchanges : goal.returns-in-Gone-clause-exchanges
+returns-in-Gone-clause-exchanges c =
+    let b = c.args.board.now in
+    let n = c.args.hand.now in
+    let k = c.update.new.hand in
+    let place : ℕ = c.args.row.place in
+    few_behind one_lock n k c.bring_back.new.hand
+    (gone_makes_none b n place (put_at b n place c.args.value) c.in-Gone.word k
+    c.requires.found.group_of.search.call.of c.in-Gone.ensures.steps)
+    c.bring_back.ensures.exchanges

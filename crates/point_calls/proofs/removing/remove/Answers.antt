@@ -2,41 +2,33 @@ use Rattle.std.proofs.Common.{ℕ, rules, ◌≤◌, Option, None, sym, ◌∙�
 use Rattle.index_machine.specs.Openings.{greatest_key}
 use Rattle.index_rule.specs.declared.hand.Hand.{Hand}
 use Rattle.index_rule.specs.declared.tried.Tried.{Tried}
-use Rattle.index_rule.specs.Hands.{known, opening_of}
 use Rattle.record_cell.specs.Writes.{remove_at}
 use Rattle.point_calls.specs.Lookup.{HasMissed}
 use Rattle.point_calls.specs.PointCalls.{LooksUp}
 use Rattle.point_calls.specs.Removing.{RemoveTells}
-use Rattle.point_calls.proofs.Knowing.{built_at, in_walk, valid_at, within_whole}
-use Rattle.point_calls.proofs.Missing.{gap_absent, group_opened, in_comes, missed}
+use Rattle.point_calls.proofs.Knowing.{in_walk}
+use Rattle.point_calls.proofs.Missing.{group_reached, in_comes, missed_gap}
 use Rattle.point_calls.proofs.RowChanging.{in_done}
 use Rattle.point_calls.proofs.RowChanging.{removed_tells}
 use Rattle.point_calls.proofs.RowReading.{missed_stone, ready_row}
 use Rattle.point_calls.proofs.Refusals.{in_refused, is_refusal, remove_tells, write_refused}
+use Rattle.point_calls.specs.Exchanges.{no_exchange, one_lock}
+use Rattle.point_calls.proofs.Exchanging.{few_before, few_behind, lock_or_none, none_before}
+use Rattle.point_calls.proofs.Exchanging.{write_makes_one}
 use Rattle.point_calls.proofs.removing.remove.Goals as goal
 
 pub miss-requires : goal.miss-requires
 miss-requires c =
     let b = c.args.board.now in
     let h = c.args.hand.now in
-    let l = c.locate-group.new.hand in
-    let k = c.find.new.hand in
     let g : ℕ = c.locate-group.result in
     let key : ℕ = c.args.key in
     let most : key ≤ greatest_key = omega arith in
-    let comes = c.locate-group.ensures.comes in
-    let il = in_comes b h l g c.requires.call.of comes in
-    let w = c.find.ensures.steps in
-    let ik = in_walk b g h l w.0 k w.1 w.2 il in
-    let own = group_opened b h l g key comes il.built most in
-    let gap = c.in_default.ensures.finds in
-    let on = gap.within.5 in
-    subst (λ (z : Hand). HasMissed b z k g key) (sym c.of-start.ensures)
-    (missed b h k g key c.requires.call.of ik c.find.ensures.search
-    (c.find.ensures.log ∙ comes.no_entry) own gap.moment (within_whole b h l k gap.moment il gap.within)
-    (gap_absent (opening_of b) gap.moment c.requires.empty
-    (valid_at b gap.moment (known k) on ik.valid) (built_at gap.moment (known k) on ik.built) key g
-    own gap.absent))
+    let f = c.find.ensures in
+    subst (λ (z : Hand). HasMissed b z c.find.new.hand g key) (sym c.of-start.ensures)
+    (missed_gap b h c.locate-group.new.hand c.find.new.hand g key _ _
+    c.requires.call.of c.requires.empty most c.locate-group.ensures.comes f.steps f.search f.log
+    c.in_default.ensures.finds)
 
 pub kill-requires : goal.kill-requires
 kill-requires c =
@@ -121,7 +113,7 @@ miss-requires-in-Gone c =
     let t = c.in-Gone.ensures.tells in
     subst (λ (z : Hand). HasMissed b z k g key) (sym c.of-start.ensures)
     (missed_stone b h n g key c.in-Row.place i can row k s.0 c.in-Gone.word s.1 c.requires.call.of
-    c.requires.empty (t.0 ∙ none) (group_opened b h l g key comes il.built most) t.1)
+    c.requires.empty (t.0 ∙ none) (group_reached b h l n g key comes il i most) t.1)
 
 pub returns-in-Gone-clause-tells : goal.returns-in-Gone-clause-tells
 returns-in-Gone-clause-tells c =
@@ -172,5 +164,49 @@ returns c =
       number = ik.number;
       section = ik.section;
       rows = ik.rows;
+      exchanges = few_behind one_lock h n k (none_before b h l n g c.requires.call.of comes w)
+          (write_makes_one b n place (remove_at b n place) c.kill.result k can.call.of
+          c.kill.ensures.steps);
       tells = tells;
     }
+
+pub returns-in_default-clause-exchanges : goal.returns-in_default-clause-exchanges
+returns-in_default-clause-exchanges c =
+    let b = c.args.board.now in
+    let h = c.args.hand.now in
+    let l = c.locate-group.new.hand in
+    let n = c.find.new.hand in
+    let g : ℕ = c.locate-group.result in
+    let comes = c.locate-group.ensures.comes in
+    let f = c.find.ensures in
+    lock_or_none h c.miss.new.hand
+    (few_behind no_exchange h n c.miss.new.hand (none_before b h l n g c.requires.call.of comes f.steps)
+    c.miss.ensures.exchanges)
+
+pub returns-in-Done-clause-exchanges : goal.returns-in-Done-clause-exchanges
+returns-in-Done-clause-exchanges c =
+    let b = c.args.board.now in
+    let h = c.args.hand.now in
+    let l = c.locate-group.new.hand in
+    let n = c.find.new.hand in
+    let g : ℕ = c.locate-group.result in
+    let comes = c.locate-group.ensures.comes in
+    let f = c.find.ensures in
+    few_behind one_lock h n c.kill.new.hand (none_before b h l n g c.requires.call.of comes f.steps)
+    (write_makes_one b n c.in-Row.place (remove_at b n c.in-Row.place) c.kill.result c.kill.new.hand
+    f.search.call.of c.kill.ensures.steps)
+
+pub returns-in-Gone-clause-exchanges : goal.returns-in-Gone-clause-exchanges
+returns-in-Gone-clause-exchanges c =
+    let b = c.args.board.now in
+    let h = c.args.hand.now in
+    let l = c.locate-group.new.hand in
+    let n = c.find.new.hand in
+    let g : ℕ = c.locate-group.result in
+    let comes = c.locate-group.ensures.comes in
+    let f = c.find.ensures in
+    few_behind one_lock h n c.miss-in-Gone.new.hand (none_before b h l n g c.requires.call.of comes f.steps)
+    (few_before one_lock n c.kill.new.hand c.miss-in-Gone.new.hand
+    (write_makes_one b n c.in-Row.place (remove_at b n c.in-Row.place) c.kill.result c.kill.new.hand
+    f.search.call.of c.kill.ensures.steps)
+    c.miss-in-Gone.ensures.exchanges)

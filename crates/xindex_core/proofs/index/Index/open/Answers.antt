@@ -2,7 +2,7 @@ use Rattle.std.proofs.Common.{rules, ◌≡◌, ◌++◌, ◌∷◌, [], ◌∙�
 use Rattle.std.specs.Prelude.{option_to_list}
 use Rattle.word_layout.specs.Layout.{limits_of}
 use Rattle.index_rule.specs.declared.hand.Hand.{Hand}
-use Rattle.row_arena.proofs.NewHands.{last_of_all}
+use Rattle.index_rule.proofs.NewHands.{last_of_all}
 use Rattle.xindex_core.proofs.index.Index.open.Goals as goal
 
 pub passes_of-requires-clause-new : goal.passes_of-requires-clause-new

@@ -42,6 +42,7 @@ returns-clause-tries c =
         enters = c.enter.ensures.step;
         section = c.get-answer.ensures.section;
         does = tells;
+        exchanges = c.get-answer.ensures.exchanges;
         leaves = c.leave.ensures.step;
       };
       full = λ is. absurd (subst

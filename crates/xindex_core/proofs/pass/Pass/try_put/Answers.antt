@@ -42,6 +42,7 @@ returns-clause-tries c =
         enters = c.enter.ensures.step;
         section = c.put-answer.ensures.section;
         does = tells;
+        exchanges = c.put-answer.ensures.exchanges;
         leaves = c.leave.ensures.step;
       };
       full = c.put-answer.ensures.full;

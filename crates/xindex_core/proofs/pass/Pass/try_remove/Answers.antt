@@ -42,6 +42,7 @@ returns-clause-tries c =
         enters = c.enter.ensures.step;
         section = c.remove-answer.ensures.section;
         does = tells;
+        exchanges = c.remove-answer.ensures.exchanges;
         leaves = c.leave.ensures.step;
       };
       full = λ is. absurd (subst

@@ -1,4 +1,0 @@
-use Rattle.xindex_core.proofs.tests.at_once.share_one_order.Goals as goal
-
-pub returns : goal.returns
-returns c = c.callers_share_one_order.ensures _ _ _ c.requires
