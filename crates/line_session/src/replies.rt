@@ -7,12 +7,22 @@ ghost use Rattle.wire_commands.specs.Replies.{line_of};
 
 use crate::{Gave, Sink};
 use map_model::{Answer, Answerer, Call};
+use std::error::Error;
+use std::fmt;
 use std::sync::Wait;
 use wire_commands::{Reply, Request};
 
 /// The sink failed, and counted it.
 #[derive(Clone, Copy, Debug, PartialEq, Eq)]
 pub struct SinkFailed;
+
+impl fmt::Display for SinkFailed {
+    fn fmt<W: fmt::Write>(&self, f: &mut fmt::Formatter<W>) -> fmt::Result {
+        write!(f, "the sink failed")
+    }
+}
+
+impl Error for SinkFailed {}
 
 /// Asks what a request asks, and gives the reply that tells the answer.
 pub(crate) fn reply_to<R: Wait + Copy, A: Answerer>(
