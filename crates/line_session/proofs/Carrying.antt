@@ -1,7 +1,7 @@
 -- A session over an answerer is one over what the answerer stands for.
 --
 -- Some facts hold of an answerer from its beginning on, and some of its end alone, and so of all before it.
-use Rattle.std.proofs.Common.{◌≡◌, List, [], ◌∷◌, Option, sym, ap, subst}
+use Rattle.std.proofs.Common.{List, [], ◌∷◌, sym, ap, subst}
 use Rattle.std.specs.Prelude.{ℕ}
 use Rattle.map_model.specs.declared.calls.Call.{Call}
 use Rattle.map_model.specs.declared.calls.Call.TheVariants as call
@@ -10,6 +10,7 @@ use Rattle.wire_commands.specs.declared.reply.Reply.{Reply}
 use Rattle.wire_commands.specs.declared.request.Request.{Request}
 use Rattle.wire_commands.specs.declared.request.Request.TheVariants as request
 use Rattle.line_session.specs.declared.ends.Ended.{Ended}
+use Rattle.line_session.specs.Ends.{EndsState}
 use Rattle.line_session.specs.Session.{Exchange, Session}
 use Rattle.line_session.specs.Served.{Serves}
 
@@ -71,9 +72,8 @@ module _ {A B : Type 0} (R : A → Call → Answer → A → Type 0) (S : B → 
     s.5,
   )
 
-  module _ (old new : A) (left_old left_new written_old written_new : Option (List ℕ)) (most : ℕ)
-      (ended : Ended)
-      (serves : Serves R old new left_old left_new written_old written_new most ended) where
+  module _ (old new : A) (ends_old ends_new : EndsState) (most : ℕ) (ended : Ended)
+      (serves : Serves R old new ends_old ends_new most ended) where
     -- what held at the beginning holds at the end
     pub serves_on : Since old → Since new
     serves_on since =
@@ -81,7 +81,7 @@ module _ {A B : Type 0} (R : A → Call → Answer → A → Type 0) (S : B → 
 
     -- the session over what the answerer stands for
     pub serves_means : Since old → Until new →
-        Serves S (f old) (f new) left_old left_new written_old written_new most ended
+        Serves S (f old) (f new) ends_old ends_new most ended
     serves_means since until =
         let c = serves.conversation in
         record {

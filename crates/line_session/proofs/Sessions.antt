@@ -16,6 +16,7 @@ use Rattle.wire_commands.specs.Feed.{room, StandsFor, TakesByte, TakesEnd}
 use Rattle.wire_commands.proofs.StreamLaws.{asks_byte, asks_newline}
 use Rattle.line_session.specs.declared.ends.Ended.{Ended}
 use Rattle.line_session.specs.declared.ends.Ended.TheVariants as ended
+use Rattle.line_session.specs.Ends.{EndsState}
 use Rattle.line_session.specs.Session.{Exchange, Session, lines_of}
 use Rattle.line_session.specs.Asked.{at_end, after_line, StopsAtLast, AreFirstLines, LacksOfLast, KeepsLimit}
 use Rattle.line_session.specs.Served.{SoFar, Conversation, ComesTo, AnswersOne, Continues, EndsByReply, EndsWithInput}
@@ -89,9 +90,9 @@ module _ {A : Type 0} (answers : A → Call → Answer → A → Type 0) where
 
   module _ (first old new : A) (taken written kept : List ℕ)
       (so_far : SoFar answers first old taken written kept) where
-    module _ (request : Request) (written_old written_new : Option (List ℕ)) where
+    module _ (request : Request) (ends_old ends_new : EndsState) where
       abbrev One : Option Ended → Type 0
-      One result = AnswersOne answers old new request written_old written_new result
+      One result = AnswersOne answers old new request ends_old ends_new result
 
       session-one : (result : Option Ended) (one : One result)
           → Session answers first (so_far.requests ++ request ∷ []) (so_far.replies ++ one.reply ∷ []) new
@@ -248,15 +249,15 @@ module _ {A : Type 0} (answers : A → Call → Answer → A → Type 0) where
         }
 
     -- a feed gave the last line at the end
-    pub ends-with_line : (request : Request) (written_old written_new : Option (List ℕ))
+    pub ends-with_line : (request : Request) (ends_old ends_new : EndsState)
         (kept_new : List ℕ) (result : Option Ended) → TakesEnd kept (Some request) kept_new
-        → (one : One request written_old written_new result)
+        → (one : One request ends_old ends_new result)
         → Conversation answers first new (unwrap_or result ended.End) at_end taken (written ++ one.added)
-    ends-with_line request written_old written_new kept_new result takes one =
+    ends-with_line request ends_old ends_new kept_new result takes one =
         let keeps_some : kept ≢ [] = λ none. let nothing = takes.nothing none in cc in
         let some : so_far.rest ≢ [] =
         λ none. keeps_some ((kept-nothing so_far.rest so_far.keeps).1 none) in
-        ends-by_last request written_old written_new result some
+        ends-by_last request ends_old ends_new result some
         (takes.reads keeps_some so_far.rest so_far.keeps) one
 
   -- a session that goes on is cut off between two reads
@@ -282,11 +283,11 @@ module _ {A : Type 0} (answers : A → Call → Answer → A → Type 0) where
   cut_off ended.WriteFault cut first now taken written kept so_far = absurd cut
 
   -- no bytes yet
-  pub continues-start : (old : A) (kept : List ℕ) (told : Option (List ℕ))
-      → Continues answers old old kept kept told told [] None
-  continues-start old kept told = record {
+  pub continues-start : (old : A) (kept : List ℕ) (ends : EndsState)
+      → Continues answers old old kept kept ends ends [] None
+  continues-start old kept ends = record {
     added = [];
-    told = sym (append_known-nil told);
+    told = sym (append_known-nil ends.written);
     dropped = 0;
     few_dropped = λ some. some;
     part = λ first taken written so_far. rw (append-nil taken, append-nil written) so_far;
@@ -294,15 +295,15 @@ module _ {A : Type 0} (answers : A → Call → Answer → A → Type 0) where
 
   -- one part after another
   pub continues-then : (old mid new : A) (kept_old kept_mid kept_new : List ℕ)
-      (written_old written_mid written_new : Option (List ℕ)) (before bytes all : List ℕ)
+      (ends_old ends_mid ends_new : EndsState) (before bytes all : List ℕ)
       (result : Option Ended) → before ++ bytes ≡ all → 0 < length bytes
-      → Continues answers old mid kept_old kept_mid written_old written_mid before None
-      → Continues answers mid new kept_mid kept_new written_mid written_new bytes result
-      → Continues answers old new kept_old kept_new written_old written_new all result
-  continues-then old mid new kept_old kept_mid kept_new written_old written_mid written_new before bytes all
+      → Continues answers old mid kept_old kept_mid ends_old ends_mid before None
+      → Continues answers mid new kept_mid kept_new ends_mid ends_new bytes result
+      → Continues answers old new kept_old kept_new ends_old ends_new all result
+  continues-then old mid new kept_old kept_mid kept_new ends_old ends_mid ends_new before bytes all
       result is some one two = record {
         added = one.added ++ two.added;
-        told = two.told ∙ rw one.told (sym (append_known-append written_old one.added two.added));
+        told = two.told ∙ rw one.told (sym (append_known-append ends_old.written one.added two.added));
         dropped = two.dropped;
         few_dropped = λ more. omega (arith, two.few_dropped some, length-append before bytes, ap length is);
         part = λ first taken written so_far.
@@ -337,11 +338,11 @@ module _ {A : Type 0} (answers : A → Call → Answer → A → Type 0) where
   drops-more first new taken written kept dropped ended.Limit more ends talk = absurd ends
 
   pub continues-dropping : (old new : A) (kept_old kept_new : List ℕ)
-      (written_old written_new : Option (List ℕ)) (bytes more all : List ℕ) (how : Ended)
+      (ends_old ends_new : EndsState) (bytes more all : List ℕ) (how : Ended)
       → bytes ++ more ≡ all → 0 < length bytes → EndsByReply (Some how)
-      → Continues answers old new kept_old kept_new written_old written_new bytes (Some how)
-      → Continues answers old new kept_old kept_new written_old written_new all (Some how)
-  continues-dropping old new kept_old kept_new written_old written_new bytes more all how is some ends one = record {
+      → Continues answers old new kept_old kept_new ends_old ends_new bytes (Some how)
+      → Continues answers old new kept_old kept_new ends_old ends_new all (Some how)
+  continues-dropping old new kept_old kept_new ends_old ends_new bytes more all how is some ends one = record {
     added = one.added;
     told = one.told;
     dropped = one.dropped + length more;

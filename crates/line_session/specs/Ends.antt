@@ -6,6 +6,23 @@ use Rattle.line_session.specs.declared.ends.Took.TheVariants as took
 use Rattle.line_session.specs.declared.ends.Gave.{Gave}
 use Rattle.line_session.specs.declared.ends.Gave.TheVariants as gave
 
+-- what contracts see of an end: the bytes that are left to read and those that were written, each where they are
+-- told, and how many reads and how many writes have failed
+pub record EndsState : Type 0 where
+  pub left : Option (List ℕ)
+  pub read_faults : ℕ
+  pub written : Option (List ℕ)
+  pub write_faults : ℕ
+
+-- the same of the two ends of a session: its source is what is read, and its sink what is written
+abbrev pub ends_of : EndsState → EndsState → EndsState
+ends_of source sink = record {
+  left = source.left;
+  read_faults = source.read_faults;
+  written = sink.written;
+  write_faults = sink.write_faults;
+}
+
 -- a count of 64 bits rose, or stands at its last number
 pub record Rose (before now : ℕ) : Type 0 where
   pub later : before ≤ now
@@ -15,6 +32,14 @@ pub record Rose (before now : ℕ) : Type 0 where
 pub record Counts (failed : Type 0) (before now : ℕ) : Type 0 where
   pub rose : failed → Rose before now
   pub same : (failed → ⊥) → now ≡ before
+
+-- a failed read is counted, and nothing else is
+abbrev pub CountsRead : Type 0 → EndsState → EndsState → Type 0
+CountsRead failed old new = Counts failed old.read_faults new.read_faults
+
+-- a failed write is counted, and nothing else is
+abbrev pub CountsWrite : Type 0 → EndsState → EndsState → Type 0
+CountsWrite failed old new = Counts failed old.write_faults new.write_faults
 
 -- a read took the next bytes of those that were left, or found none left, or failed and took none
 abbrev pub HandsOut : Took → List ℕ → Option (List ℕ) → Option (List ℕ) → Type 0
@@ -28,6 +53,20 @@ abbrev pub Accepts : Gave → List ℕ → Option (List ℕ) → Option (List �
 Accepts (gave.Bytes n) piece old new =
     (1 ≤ n) × (n ≤ length piece) × (new ≡ append_known old (take n piece))
 Accepts gave.Failed piece old new = new ≡ old
+
+-- what a read did to the bytes that are left, counted where it failed, and did nothing else
+pub record Reads (result : Took) (into : List ℕ) (old new : EndsState) : Type 0 where
+  pub bytes : HandsOut result into old.left new.left
+  pub faults : CountsRead (result ≡ took.Failed) old new
+  pub written : new.written ≡ old.written
+  pub write_faults : new.write_faults ≡ old.write_faults
+
+-- what a write did to the bytes that were written, counted where it failed, and did nothing else
+pub record Writes (result : Gave) (piece : List ℕ) (old new : EndsState) : Type 0 where
+  pub bytes : Accepts result piece old.written new.written
+  pub faults : CountsWrite (result ≡ gave.Failed) old new
+  pub left : new.left ≡ old.left
+  pub read_faults : new.read_faults ≡ old.read_faults
 
 -- a read took no more bytes than may be
 abbrev pub TakesAtMost : Took → ℕ → Type 0

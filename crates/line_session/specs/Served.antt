@@ -11,6 +11,7 @@ use Rattle.wire_commands.specs.Stream.{Asks}
 use Rattle.wire_commands.specs.Feed.{StandsFor}
 use Rattle.line_session.specs.declared.ends.Ended.{Ended}
 use Rattle.line_session.specs.declared.ends.Ended.TheVariants as ended
+use Rattle.line_session.specs.Ends.{EndsState}
 use Rattle.line_session.specs.Session.{Exchange, Session, lines_of}
 use Rattle.line_session.specs.Asked.{Stop, at_end, after_line, GoesOn, Covers, Wrote, KeepsLimit, IsStop}
 
@@ -64,43 +65,41 @@ module _ {A : Type 0} (answers : A → Call → Answer → A → Type 0) where
       Conversation first now ended (after_line dropped) taken written
 
   -- a part of a session, in which these bytes were taken, whatever part of it came before
-  pub record Continues (old new : A) (kept_old kept_new : List ℕ)
-      (written_old written_new : Option (List ℕ))
+  pub record Continues (old new : A) (kept_old kept_new : List ℕ) (ends_old ends_new : EndsState)
       (bytes : List ℕ) (result : Option Ended) : Type 0 where
     pub added : List ℕ
-    pub told : written_new ≡ append_known written_old added
+    pub told : ends_new.written ≡ append_known ends_old.written added
     pub dropped : ℕ
     pub few_dropped : 0 < length bytes → dropped < length bytes
     pub part : (first : A) (taken written : List ℕ) → SoFar first old taken written kept_old
         → ComesTo first new (taken ++ bytes) (written ++ added) kept_new dropped result
 
   -- the end of a session by that of the input, whatever part of it came before
-  pub record Finishes (old new : A) (kept : List ℕ) (written_old written_new : Option (List ℕ))
-      (result : Ended) : Type 0 where
+  pub record Finishes (old new : A) (kept : List ℕ) (ends_old ends_new : EndsState) (result : Ended)
+      : Type 0 where
     pub added : List ℕ
-    pub told : written_new ≡ append_known written_old added
+    pub told : ends_new.written ≡ append_known ends_old.written added
     pub whole : (first : A) (taken written : List ℕ) → SoFar first old taken written kept
         → Conversation first new result at_end taken (written ++ added)
 
   -- one request was asked, and its reply was written: whole, or a front of it where the sink failed
-  pub record AnswersOne (old new : A) (request : Request)
-      (written_old written_new : Option (List ℕ))
+  pub record AnswersOne (old new : A) (request : Request) (ends_old ends_new : EndsState)
       (result : Option Ended) : Type 0 where
     pub reply : Reply
     pub exchange : Exchange answers old request (reply ∷ []) new
     pub added : List ℕ
-    pub told : written_new ≡ append_known written_old added
+    pub told : ends_new.written ≡ append_known ends_old.written added
     pub wrote : WroteOne result request (line_of reply) added
 
   -- a whole session: what it took and wrote, by how it ended
-  pub record Serves (old new : A) (left_old left_new written_old written_new : Option (List ℕ))
-      (most : ℕ) (result : Ended) : Type 0 where
+  pub record Serves (old new : A) (ends_old ends_new : EndsState) (most : ℕ) (result : Ended)
+      : Type 0 where
     pub taken : List ℕ
     pub written : List ℕ
-    pub took : left_old ≡ prepend_known taken left_new
-    pub told : written_new ≡ append_known written_old written
+    pub took : ends_old.left ≡ prepend_known taken ends_new.left
+    pub told : ends_new.written ≡ append_known ends_old.written written
     pub limit : KeepsLimit result most (length taken)
     pub stop : Stop
-    pub stopped : IsStop stop left_new most (length taken)
+    pub stopped : IsStop stop ends_new.left most (length taken)
     pub ended_with_input : result ≡ ended.End → stop ≡ at_end
     pub conversation : Conversation old new result stop taken written

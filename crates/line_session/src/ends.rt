@@ -1,8 +1,8 @@
 //! The two ends of a session: where bytes come from and where they go.
 //!
-//! An object may be both. So what each call leaves alone is said of all four meanings, and they stand in one trait.
-ghost use Rattle.std.specs.Prelude.{◌≡◌, ℕ, ◌<◌, List, Option, length};
-ghost use Rattle.line_session.specs.Ends.{HandsOut, Accepts, Counts};
+//! An object may be both. So one state has the meanings of both, and a call says what it leaves alone of it.
+ghost use Rattle.std.specs.Prelude.{◌≡◌, ◌<◌, length};
+ghost use Rattle.line_session.specs.Ends.{EndsState, Reads, Writes};
 
 /// What a read came to.
 #[derive(Clone, Copy, Debug, PartialEq, Eq)]
@@ -50,17 +50,8 @@ pub enum Ended {
 ///
 /// What is only one of the two tells no bytes for the other and counts no faults of it.
 pub trait Ends {
-    /// The bytes that are left to read, where the object tells them.
-    ghost left: { Self → Option (List ℕ) };
-
-    /// How many reads have failed.
-    ghost read_faults: { Self → ℕ };
-
-    /// The bytes that have been written, where the object tells them.
-    ghost written: { Self → Option (List ℕ) };
-
-    /// How many writes have failed.
-    ghost write_faults: { Self → ℕ };
+    /// Its bytes and its faults.
+    ghost state: { Self → EndsState };
 }
 
 /// Where bytes come from.
@@ -68,15 +59,11 @@ pub trait Source: Ends {
     /// Reads the next bytes to the front of a buffer.
     fn read(&mut self, into: &mut [u8]) -> Took
         requires { 0 < length into.old }
-        ensures bytes { HandsOut result into.new (Self.left self.old) (Self.left self.new) }
-        ensures faults { Counts (result ≡ Took.Failed)
-            (Self.read_faults self.old) (Self.read_faults self.new) }
-        ensures written { Self.written self.new ≡ Self.written self.old }
-        ensures write_faults { Self.write_faults self.new ≡ Self.write_faults self.old };
+        ensures { Reads result into.new (Self.state self.old) (Self.state self.new) };
 
     /// How many reads have failed. The count stands at its greatest number.
     fn faults(&self) -> u64
-        ensures { result ≡ Self.read_faults self.now };
+        ensures { result ≡ (Self.state self.now).read_faults };
 }
 
 /// Where bytes go.
@@ -84,13 +71,9 @@ pub trait Sink: Ends {
     /// Takes the front of a piece.
     fn take(&mut self, piece: &[u8]) -> Gave
         requires { 0 < length piece.now }
-        ensures bytes { Accepts result piece.now (Self.written self.old) (Self.written self.new) }
-        ensures faults { Counts (result ≡ Gave.Failed)
-            (Self.write_faults self.old) (Self.write_faults self.new) }
-        ensures left { Self.left self.new ≡ Self.left self.old }
-        ensures read_faults { Self.read_faults self.new ≡ Self.read_faults self.old };
+        ensures { Writes result piece.now (Self.state self.old) (Self.state self.new) };
 
     /// How many writes have failed. The count stands at its greatest number.
     fn faults(&self) -> u64
-        ensures { result ≡ Self.write_faults self.now };
+        ensures { result ≡ (Self.state self.now).write_faults };
 }

@@ -45,13 +45,12 @@ impl SureSource {
 impl Ends for SureSource {
     ghost use Rattle.std.specs.Prelude.{Some, None};
 
-    ghost left = { λ s. Some s.left };
-
-    ghost read_faults = { λ _. 0 };
-
-    ghost written = { λ _. None };
-
-    ghost write_faults = { λ _. 0 };
+    ghost state = { λ s. record {
+      left = Some s.left;
+      read_faults = 0;
+      written = None;
+      write_faults = 0;
+    } };
 }
 
 impl Source for SureSource {
@@ -117,13 +116,12 @@ impl BytesSource {
 impl Ends for BytesSource {
     ghost use Rattle.std.specs.Prelude.{Some, None};
 
-    ghost left = { λ s. Some s.supply.left };
-
-    ghost read_faults = { λ s. s.faults };
-
-    ghost written = { λ _. None };
-
-    ghost write_faults = { λ _. 0 };
+    ghost state = { λ s. record {
+      left = Some s.supply.left;
+      read_faults = s.faults;
+      written = None;
+      write_faults = 0;
+    } };
 }
 
 impl Source for BytesSource {
@@ -206,13 +204,12 @@ impl BytesSink {
 impl Ends for BytesSink {
     ghost use Rattle.std.specs.Prelude.{Some, None};
 
-    ghost left = { λ _. None };
-
-    ghost read_faults = { λ _. 0 };
-
-    ghost written = { λ s. Some s.bytes };
-
-    ghost write_faults = { λ s. s.faults };
+    ghost state = { λ s. record {
+      left = None;
+      read_faults = 0;
+      written = Some s.bytes;
+      write_faults = s.faults;
+    } };
 }
 
 impl Sink for BytesSink {
@@ -279,13 +276,12 @@ impl Default for CountSink {
 impl Ends for CountSink {
     ghost use Rattle.std.specs.Prelude.{None};
 
-    ghost left = { λ _. None };
-
-    ghost read_faults = { λ _. 0 };
-
-    ghost written = { λ _. None };
-
-    ghost write_faults = { λ _. 0 };
+    ghost state = { λ _. record {
+      left = None;
+      read_faults = 0;
+      written = None;
+      write_faults = 0;
+    } };
 }
 
 impl Sink for CountSink {

@@ -1,18 +1,28 @@
 //! One request at a time: it is asked, and its reply is handed on whole.
 ghost use Rattle.std.specs.Prelude.{◌≡◌, [], ◌∷◌, OnOk, OnErr, IsErr};
 ghost use Rattle.std.specs.Io.KnownBytes.{append_known};
-ghost use Rattle.line_session.specs.Ends.{TakesFront, Counts};
+ghost use Rattle.line_session.specs.Ends.{CountsWrite, TakesFront};
 ghost use Rattle.line_session.specs.Session.{Exchange};
 ghost use Rattle.wire_commands.specs.Replies.{line_of};
 
 use crate::{Gave, Sink};
 use map_model::{Answer, Answerer, Call};
+use std::error::Error;
+use std::fmt;
 use std::sync::Wait;
 use wire_commands::{Reply, Request};
 
 /// The sink failed, and counted it.
 #[derive(Clone, Copy, Debug, PartialEq, Eq)]
 pub struct SinkFailed;
+
+impl fmt::Display for SinkFailed {
+    fn fmt<W: fmt::Write>(&self, f: &mut fmt::Formatter<W>) -> fmt::Result {
+        write!(f, "the sink failed")
+    }
+}
+
+impl Error for SinkFailed {}
 
 /// Asks what a request asks, and gives the reply that tells the answer.
 pub(crate) fn reply_to<R: Wait + Copy, A: Answerer>(
@@ -48,9 +58,11 @@ pub(crate) fn reply_to<R: Wait + Copy, A: Answerer>(
 
 /// Hands a piece on until the sink has taken all of it. After a failure a front of it was taken.
 pub fn write_all<K: Sink>(sink: &mut K, piece: &[u8]) -> Result<(), SinkFailed>
-    ensures ok { OnOk result (K.written sink.new ≡ append_known (K.written sink.old) piece.now) }
-    ensures err { OnErr result (TakesFront piece.now (K.written sink.old) (K.written sink.new)) }
-    ensures faults { Counts (IsErr result) (K.write_faults sink.old) (K.write_faults sink.new) }
+    ensures ok { OnOk result
+        ((K.state sink.new).written ≡ append_known (K.state sink.old).written piece.now) }
+    ensures err { OnErr result
+        (TakesFront piece.now (K.state sink.old).written (K.state sink.new).written) }
+    ensures faults { CountsWrite (IsErr result) (K.state sink.old) (K.state sink.new) }
 {
     let mut rest = piece;
     while !rest.is_empty() {
@@ -65,10 +77,10 @@ pub fn write_all<K: Sink>(sink: &mut K, piece: &[u8]) -> Result<(), SinkFailed>
 /// Writes a reply's line to the sink.
 pub(crate) fn write_reply<K: Sink>(sink: &mut K, reply: Reply) -> Result<(), SinkFailed>
     ensures ok { OnOk result
-        (K.written sink.new ≡ append_known (K.written sink.old) (line_of reply)) }
+        ((K.state sink.new).written ≡ append_known (K.state sink.old).written (line_of reply)) }
     ensures err { OnErr result
-        (TakesFront (line_of reply) (K.written sink.old) (K.written sink.new)) }
-    ensures faults { Counts (IsErr result) (K.write_faults sink.old) (K.write_faults sink.new) }
+        (TakesFront (line_of reply) (K.state sink.old).written (K.state sink.new).written) }
+    ensures faults { CountsWrite (IsErr result) (K.state sink.old) (K.state sink.new) }
 {
     let mut line = [0; 80];
     let len = reply.write(&mut line);

@@ -3,7 +3,7 @@
 //! Bytes come in pieces that have nothing to do with the lines. A feed keeps what has come of a line, so a session
 //! is the same however its input is cut.
 ghost use Rattle.std.specs.Prelude.{◌≡◌, ◌<◌, ◌≤◌, [], ◌∷◌, Some};
-ghost use Rattle.line_session.specs.Ends.{HandsOut, TakesAtMost, Counts};
+ghost use Rattle.line_session.specs.Ends.{CountsRead, CountsWrite, HandsOut, TakesAtMost, ends_of};
 ghost use Rattle.line_session.specs.Served.{Serves, Continues, Finishes, AnswersOne};
 ghost use Rattle.line_session.specs.Served.{EndsByReply, EndsWithInput};
 
@@ -29,14 +29,14 @@ pub fn serve_one<R: Wait + Copy, A: Answerer, S: Source, K: Sink>(
 ) -> Ended
     requires { 1 ≤ most }
     ensures session { Serves A.answers answerer.old answerer.new
-        (S.left source.old) (S.left source.new)
-        (K.written sink.old) (K.written sink.new) most result }
+        (ends_of (S.state source.old) (K.state sink.old))
+        (ends_of (S.state source.new) (K.state sink.new)) most result }
 
     // A fault ends the session, and is answered only where it was counted.
-    ensures read_faults { Counts (result ≡ Ended.ReadFault)
-        (S.read_faults source.old) (S.read_faults source.new) }
-    ensures write_faults { Counts (result ≡ Ended.WriteFault)
-        (K.write_faults sink.old) (K.write_faults sink.new) }
+    ensures read_faults { CountsRead (result ≡ Ended.ReadFault)
+        (S.state source.old) (S.state source.new) }
+    ensures write_faults { CountsWrite (result ≡ Ended.WriteFault)
+        (K.state sink.old) (K.state sink.new) }
 {
     let mut feed = Feed::new();
     let mut buffer = [0; PIECE];
@@ -63,10 +63,11 @@ pub fn serve_one<R: Wait + Copy, A: Answerer, S: Source, K: Sink>(
 // Reads a piece of at most so many bytes.
 fn read_piece<S: Source>(source: &mut S, buffer: &mut [u8; PIECE], most: u64) -> Took
     requires { 0 < most }
-    ensures bytes { HandsOut result buffer.new (S.left source.old) (S.left source.new) }
+    ensures bytes { HandsOut result buffer.new
+        (S.state source.old).left (S.state source.new).left }
     ensures limit { TakesAtMost result most }
-    ensures faults { Counts (result ≡ Took.Failed)
-        (S.read_faults source.old) (S.read_faults source.new) }
+    ensures faults { CountsRead (result ≡ Took.Failed)
+        (S.state source.old) (S.state source.new) }
 {
     let room = most.min(PIECE as u64) as usize;
     source.read(&mut buffer[..room])
@@ -81,10 +82,10 @@ fn answer_piece<R: Wait + Copy, A: Answerer, K: Sink>(
     piece: &[u8],
 ) -> Option<Ended>
     ensures part { Continues A.answers answerer.old answerer.new feed.old feed.new
-        (K.written sink.old) (K.written sink.new) piece.now result }
+        (K.state sink.old) (K.state sink.new) piece.now result }
     ensures ends { EndsByReply result }
-    ensures faults { Counts (result ≡ Some Ended.WriteFault)
-        (K.write_faults sink.old) (K.write_faults sink.new) }
+    ensures faults { CountsWrite (result ≡ Some Ended.WriteFault)
+        (K.state sink.old) (K.state sink.new) }
 {
     for byte in piece {
         if let Some(ended) = answer_byte(rt, answerer, sink, feed, *byte) {
@@ -104,10 +105,10 @@ fn answer_byte<R: Wait + Copy, A: Answerer, K: Sink>(
     byte: u8,
 ) -> Option<Ended>
     ensures part { Continues A.answers answerer.old answerer.new feed.old feed.new
-        (K.written sink.old) (K.written sink.new) (byte ∷ []) result }
+        (K.state sink.old) (K.state sink.new) (byte ∷ []) result }
     ensures ends { EndsByReply result }
-    ensures faults { Counts (result ≡ Some Ended.WriteFault)
-        (K.write_faults sink.old) (K.write_faults sink.new) }
+    ensures faults { CountsWrite (result ≡ Some Ended.WriteFault)
+        (K.state sink.old) (K.state sink.new) }
 {
     match feed.byte(byte) {
         Some(request) => answer(rt, answerer, sink, request),
@@ -123,10 +124,10 @@ fn answer_rest<R: Wait + Copy, A: Answerer, K: Sink>(
     feed: &mut Feed,
 ) -> Ended
     ensures whole { Finishes A.answers answerer.old answerer.new feed.old
-        (K.written sink.old) (K.written sink.new) result }
+        (K.state sink.old) (K.state sink.new) result }
     ensures ends { EndsWithInput result }
-    ensures faults { Counts (result ≡ Ended.WriteFault)
-        (K.write_faults sink.old) (K.write_faults sink.new) }
+    ensures faults { CountsWrite (result ≡ Ended.WriteFault)
+        (K.state sink.old) (K.state sink.new) }
 {
     match feed.end() {
         Some(request) => answer(rt, answerer, sink, request).unwrap_or(Ended::End),
@@ -142,9 +143,9 @@ fn answer<R: Wait + Copy, A: Answerer, K: Sink>(
     request: Request,
 ) -> Option<Ended>
     ensures one { AnswersOne A.answers answerer.old answerer.new request
-        (K.written sink.old) (K.written sink.new) result }
-    ensures faults { Counts (result ≡ Some Ended.WriteFault)
-        (K.write_faults sink.old) (K.write_faults sink.new) }
+        (K.state sink.old) (K.state sink.new) result }
+    ensures faults { CountsWrite (result ≡ Some Ended.WriteFault)
+        (K.state sink.old) (K.state sink.new) }
 {
     let reply = reply_to(rt, answerer, request);
     if write_reply(sink, reply).is_err() {

@@ -7,12 +7,22 @@ ghost use Rattle.map_model.specs.Map.{look, put, remove, first_from, IsRising, I
 
 use crate::{Answer, Answerer, Call, Near, Value};
 use std::alloc::{AllocError, Global};
+use std::error::Error;
+use std::fmt;
 use std::marker::Model;
 use std::sync::Wait;
 
 /// A put would have needed room for one more key.
 #[derive(Clone, Copy, Debug, PartialEq, Eq)]
 pub struct NoRoom;
+
+impl fmt::Display for NoRoom {
+    fn fmt<W: fmt::Write>(&self, f: &mut fmt::Formatter<W>) -> fmt::Result {
+        write!(f, "the map has room for no more keys")
+    }
+}
+
+impl Error for NoRoom {}
 
 /// A map in a sorted vector. Contracts see its pairs, by rising keys, and how many it has room for.
 #[derive(Debug, Drop)]
@@ -224,6 +234,8 @@ mod tests {
     fn a_map_without_room_is_empty(rt: HostRuntime) -> Result<(), Fail> {
         let mut map = PlainMap::with_room(rt.alloc(), 0)?;
         assert_eq!(rt; map.put(0, 0), Err(NoRoom));
+        let shown = format!(in rt.alloc(); "{NoRoom}")?;
+        assert_eq!(rt; shown.as_str(), "the map has room for no more keys");
         assert_eq!(rt; map.get(0), None);
         assert_eq!(rt; map.remove(0), None);
         Ok(())

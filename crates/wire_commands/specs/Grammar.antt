@@ -16,19 +16,15 @@ keyword_of form.Put = codes "put"
 keyword_of form.Remove = codes "remove"
 keyword_of form.Quit = codes "quit"
 
--- the greatest key
-abbrev pub greatest_key : ℕ
-greatest_key = 2 ^ 64 - 1
-
--- the greatest value
-abbrev pub greatest_value : ℕ
-greatest_value = 2 ^ 64 - 1
+-- the greatest number that a key or a value of a line may be
+abbrev pub greatest_number : ℕ
+greatest_number = 2 ^ 64 - 1
 
 -- the numbers that follow a form's keyword, each told by the greatest that it may be
 abbrev pub limits_of : Form → List ℕ
-limits_of form.Get = greatest_key ∷ []
-limits_of form.Put = greatest_key ∷ greatest_value ∷ []
-limits_of form.Remove = greatest_key ∷ []
+limits_of form.Get = greatest_number ∷ []
+limits_of form.Put = greatest_number ∷ greatest_number ∷ []
+limits_of form.Remove = greatest_number ∷ []
 limits_of form.Quit = []
 
 -- there are as many numbers as limits, and none is above its own

@@ -6,6 +6,8 @@ ghost use Rattle.word_layout.specs.Limits.{KeepsRules, IsFirstBroken, is_within,
 
 use crate::layout::Layout;
 use crate::state::LAST_VERSION;
+use std::error::Error;
+use std::fmt;
 
 /// How many of each part a table has, and the counts by which the keeper works.
 #[derive(Clone, Copy, Debug, PartialEq, Eq)]
@@ -35,6 +37,14 @@ pub struct Limits {
 pub struct BadLimit {
     pub number: u32,
 }
+
+impl fmt::Display for BadLimit {
+    fn fmt<W: fmt::Write>(&self, f: &mut fmt::Formatter<W>) -> fmt::Result {
+        write!(f, "the limits break rule {}", self.number)
+    }
+}
+
+impl Error for BadLimit {}
 
 impl Limits {
     ghost use Rattle.word_layout.specs.Layout.{limits_of};
@@ -133,6 +143,7 @@ fn first_false(tests: &[bool]) -> Option<usize>
 #[cfg(test)]
 mod tests {
     use super::*;
+    use std::test::Fail;
 
     #[test]
     fn the_standard_limits_make_a_table_of_known_size(rt: HostRuntime) {
@@ -141,157 +152,87 @@ mod tests {
     }
 
     #[test]
-    fn the_first_rule_that_is_broken_is_named(rt: HostRuntime) {
-        let good = Limits::standard();
+    fn the_first_rule_that_is_broken_is_named(rt: HostRuntime) -> Result<(), Fail> {
         let table = [
-            (1, Limits { callers: 0, ..good }),
-            (
-                1,
-                Limits {
-                    callers: 65,
-                    ..good
-                },
-            ),
-            (2, Limits { records: 1, ..good }),
-            (
-                2,
-                Limits {
-                    records: 16777217,
-                    ..good
-                },
-            ),
-            (3, Limits { groups: 1, ..good }),
-            (
-                3,
-                Limits {
-                    groups: 65537,
-                    ..good
-                },
-            ),
-            (
-                4,
-                Limits {
-                    group_size: 7,
-                    ..good
-                },
-            ),
-            (
-                4,
-                Limits {
-                    group_size: 1025,
-                    ..good
-                },
-            ),
-            (5, Limits { slots: 0, ..good }),
-            (
-                5,
-                Limits {
-                    slots: 4097,
-                    ..good
-                },
-            ),
-            (6, Limits { due: 0, ..good }),
-            (6, Limits { due: 257, ..good }),
-            (7, Limits { help: 0, ..good }),
-            (
-                7,
-                Limits {
-                    help: 1048577,
-                    ..good
-                },
-            ),
-            (8, Limits { chain: 0, ..good }),
-            (
-                8,
-                Limits {
-                    chain: 4097,
-                    ..good
-                },
-            ),
-            (
-                9,
-                Limits {
-                    first_version: 1152921504606846976,
-                    ..good
-                },
-            ),
-            (
-                10,
-                Limits {
-                    groups: 65536,
-                    group_size: 1024,
-                    ..good
-                },
-            ),
+            (1, [("callers", 0)].as_slice()),
+            (1, &[("callers", 65)]),
+            (2, &[("records", 1)]),
+            (2, &[("records", 16777217)]),
+            (3, &[("groups", 1)]),
+            (3, &[("groups", 65537)]),
+            (4, &[("group_size", 7)]),
+            (4, &[("group_size", 1025)]),
+            (5, &[("slots", 0)]),
+            (5, &[("slots", 4097)]),
+            (6, &[("due", 0)]),
+            (6, &[("due", 257)]),
+            (7, &[("help", 0)]),
+            (7, &[("help", 1048577)]),
+            (8, &[("chain", 0)]),
+            (8, &[("chain", 4097)]),
+            (10, &[("groups", 65536), ("group_size", 1024)]),
             (
                 3,
-                Limits {
-                    groups: u32::MAX,
-                    group_size: u32::MAX,
-                    slots: 0,
-                    ..good
-                },
+                &[("groups", u32::MAX), ("group_size", u32::MAX), ("slots", 0)],
             ),
-            (
-                2,
-                Limits {
-                    records: 0,
-                    due: 0,
-                    chain: 0,
-                    ..good
-                },
-            ),
+            (2, &[("records", 0), ("due", 0), ("chain", 0)]),
         ];
-        for (number, limits) in table {
-            let layout = limits.layout();
+        for (number, changes) in table {
+            let words = changed(changes).layout().map(|layout| layout.words());
+            assert_eq!(rt; words, Err(BadLimit { number }), "{changes:?}");
+        }
+        let shown = format!(in rt.alloc(); "{}", BadLimit { number: 3 })?;
+        assert_eq!(rt; shown.as_str(), "the limits break rule 3");
+        Ok(())
+    }
+
+    #[test]
+    fn limits_at_the_ends_of_their_ranges_are_taken(rt: HostRuntime) {
+        let table = [
+            (527363, ("callers", 1)),
+            (527426, ("callers", 64)),
+            (265230, ("records", 2)),
+            (67374086, ("records", 16777216)),
+            (265238, ("groups", 2)),
+            (526346, ("slots", 1)),
+            (542726, ("slots", 4096)),
+            (527366, ("due", 256)),
+        ];
+        for (words, change) in table {
+            let layout = changed(&[change]).layout();
             assert_eq!(rt;
                 layout.map(|layout| layout.words()),
-                Err(BadLimit { number })
+                Ok(words),
+                "{change:?}"
             );
         }
     }
 
     #[test]
-    fn limits_at_the_ends_of_their_ranges_are_taken(rt: HostRuntime) {
-        let good = Limits::standard();
-        let table = [
-            (527363, Limits { callers: 1, ..good }),
-            (
-                527426,
-                Limits {
-                    callers: 64,
-                    ..good
-                },
-            ),
-            (265230, Limits { records: 2, ..good }),
-            (
-                67374086,
-                Limits {
-                    records: 16777216,
-                    ..good
-                },
-            ),
-            (265238, Limits { groups: 2, ..good }),
-            (526346, Limits { slots: 1, ..good }),
-            (
-                542726,
-                Limits {
-                    slots: 4096,
-                    ..good
-                },
-            ),
-            (527366, Limits { due: 256, ..good }),
-            (
-                527366,
-                Limits {
-                    first_version: 1152921504606846975,
-                    ..good
-                },
-            ),
-        ];
-        for (words, limits) in table {
-            let layout = limits.layout();
-            assert_eq!(rt; layout.map(|layout| layout.words()), Ok(words));
+    fn the_first_version_is_at_most_the_last_one(rt: HostRuntime) {
+        let mut limits = Limits::standard();
+        limits.first_version = 1152921504606846975;
+        assert_eq!(rt; limits.layout().map(|layout| layout.words()), Ok(527366));
+        limits.first_version += 1;
+        let refused = Err(BadLimit { number: 9 });
+        assert_eq!(rt; limits.layout().map(|layout| layout.words()), refused);
+    }
+
+    // The standard limits, but for these numbers.
+    fn changed(changes: &[(&str, u32)]) -> Limits {
+        let mut limits = Limits::standard();
+        for &(field, number) in changes {
+            match field {
+                "callers" => limits.callers = number,
+                "records" => limits.records = number,
+                "groups" => limits.groups = number,
+                "group_size" => limits.group_size = number,
+                "slots" => limits.slots = number,
+                "due" => limits.due = number,
+                "help" => limits.help = number,
+                _ => limits.chain = number,
+            }
         }
+        limits
     }
 }

@@ -1,5 +1,5 @@
 -- A session over an index that nobody else changes.
-use Rattle.std.proofs.Common.{◌≡◌, ℕ, ◌+◌, ◌<◌, ◌≤◌, Bool, true, false, List, Option, [], ◌∷◌, ◌++◌, length}
+use Rattle.std.proofs.Common.{◌≡◌, ℕ, ◌+◌, ◌<◌, ◌≤◌, Bool, true, false, List, [], ◌∷◌, ◌++◌, length}
 use Rattle.std.proofs.Common.{refl, sym, ap, ◌∙◌, subst, arith, cond, ◌≢◌, ◌==◌, eqb-true, eq-eqb, lt-ltb}
 use Rattle.std.proofs.Common.{append-nil, append_assoc, length-append}
 use Rattle.std.specs.Prelude.{slice_index_or, slice_set}
@@ -9,6 +9,7 @@ use Rattle.map_model.specs.declared.calls.Answer.{Answer}
 use Rattle.map_model.specs.History.{History, caller_of, changes_by}
 use Rattle.map_model.specs.Logs.{changes_of}
 use Rattle.line_session.specs.declared.ends.Ended.{Ended}
+use Rattle.line_session.specs.Ends.{EndsState}
 use Rattle.line_session.specs.Served.{Serves}
 use Rattle.line_session.proofs.Carrying.{serves_means, serves_on}
 use Rattle.word_layout.specs.declared.limits.Limits.{Limits}
@@ -69,23 +70,21 @@ module _ {W : Type 0} (index_of : W → Index) (pass_of : W → Pass) (i : Index
       answers_alone l (caller_with i (pass_of old)) c a (caller_with i (pass_of new)) since.1
       (at_index old c a new since x) until
 
-  module _ (old new : W) (left_old left_new written_old written_new : Option (List ℕ)) (most : ℕ)
-      (ended : Ended)
-      (serves : Serves Asks old new left_old left_new written_old written_new most ended)
+  module _ (old new : W) (ends_old ends_new : EndsState) (most : ℕ) (ended : Ended)
+      (serves : Serves Asks old new ends_old ends_new most ended)
       (here : index_of old ≡ i) (alone : IsAlone l (caller_with i (pass_of old))) where
     -- the caller was alone all along
     pub alone_still : IsAlone l (caller_with i (pass_of new))
     alone_still =
         (serves_on Asks (AnswersAlone l) (λ w. log_of (pass_of w)) Since Until on back means old new
-        left_old left_new written_old written_new most ended serves (here, alone)).1
+        ends_old ends_new most ended serves (here, alone)).1
 
     -- so its log tells the session
     pub alone_serves : AllByZero (history (known_to (pass_of new))) →
-        Serves (AnswersAlone l) (log_of (pass_of old)) (log_of (pass_of new)) left_old left_new
-        written_old written_new most ended
+        Serves (AnswersAlone l) (log_of (pass_of old)) (log_of (pass_of new)) ends_old ends_new most ended
     alone_serves until =
         serves_means Asks (AnswersAlone l) (λ w. log_of (pass_of w)) Since Until on back means old new
-        left_old left_new written_old written_new most ended serves (here, alone) until
+        ends_old ends_new most ended serves (here, alone) until
 
 -- ---- the other passes ----
 

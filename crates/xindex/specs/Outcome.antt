@@ -3,7 +3,7 @@ use Rattle.std.specs.Prelude.{◌≡◌, ◌++◌, ℕ, List, [], MatchOption, N
 use Rattle.std.specs.Io.KnownBytes.{append_known}
 use Rattle.line_session.specs.declared.ends.Ended.{Ended}
 use Rattle.line_session.specs.declared.ends.Ended.TheVariants as ended
-use Rattle.line_session.specs.Ends.{TakesFront}
+use Rattle.line_session.specs.Ends.{EndsState, TakesFront}
 use Rattle.line_session.specs.Served.{Serves}
 use Rattle.command_line.specs.declared.answers.Command.{Command}
 use Rattle.command_line.specs.Command.{IsCommand, asked_limits}
@@ -63,25 +63,23 @@ abbrev pub unopened : Status → Outcome
 unopened status = record { status = status; opened = None }
 
 -- the program told a refusal and did nothing else: nothing was read, and no index opened
-pub record OnlyRefuses (line : List ℕ) (refused : Status)
-    (left_old left_new written_old written_new : Option (List ℕ)) (outcome : Outcome) : Type 0 where
-  pub refusal : Refuses line refused written_old written_new outcome.status
-  pub unread : left_new ≡ left_old
+pub record OnlyRefuses (line : List ℕ) (refused : Status) (ends_old ends_new : EndsState)
+    (outcome : Outcome) : Type 0 where
+  pub refusal : Refuses line refused ends_old.written ends_new.written outcome.status
+  pub unread : ends_new.left ≡ ends_old.left
   pub no_index : outcome ≡ unopened outcome.status
 
 -- one session was served by pass 0 over the index, which was opened empty with these limits: its log
 -- tells it, and nobody else changed the index; this is the status of its end
-pub record Pipes (l : Limits) (most : ℕ) (left_old left_new written_old written_new : Option (List ℕ))
-    (status : Status) (opened : Opened) : Type 0 where
+pub record Pipes (l : Limits) (most : ℕ) (ends_old ends_new : EndsState) (status : Status)
+    (opened : Opened) : Type 0 where
   pub ended : Ended
   pub status_is : status ≡ status_of ended
   pub index : IsServed l opened
-  pub served : Serves (AnswersAlone l) [] (first_log opened) left_old left_new written_old
-      written_new most ended
+  pub served : Serves (AnswersAlone l) [] (first_log opened) ends_old ends_new most ended
 
 -- the program served a session, or there was no memory for an index
-abbrev pub PipesOrLacksMemory : Limits → ℕ → Option (List ℕ) → Option (List ℕ) → Option (List ℕ)
-    → Option (List ℕ) → Outcome → Type 0
-PipesOrLacksMemory l most left_old left_new written_old written_new outcome =
+abbrev pub PipesOrLacksMemory : Limits → ℕ → EndsState → EndsState → Outcome → Type 0
+PipesOrLacksMemory l most ends_old ends_new outcome =
     MatchOption outcome.opened (outcome.status ≡ Memory)
-    (Pipes l most left_old left_new written_old written_new outcome.status)
+    (Pipes l most ends_old ends_new outcome.status)

@@ -1,6 +1,6 @@
 //! A session is served over an index that nobody else changes.
 ghost use Rattle.std.specs.Prelude.{◌≡◌, ◌≤◌, ◌<◌, ◌+◌, [], length, vec_capacity};
-ghost use Rattle.line_session.specs.Ends.{Counts};
+ghost use Rattle.line_session.specs.Ends.{CountsRead, CountsWrite, ends_of};
 ghost use Rattle.line_session.specs.Served.{Serves};
 ghost use Rattle.xindex_core.specs.Alone.{AllByZero, AnswersAlone, IsAlone};
 ghost use Rattle.xindex_core.specs.Callers.{seen_by};
@@ -27,12 +27,12 @@ pub fn serve_alone<N: Name, R: Wait + Copy, S: Source, K: Sink>(
     requires name { IsNameOf N.table N.opening opened.index }
     ensures opened { IsServed (limits_of_index opened.index) result.1 }
     ensures session { Serves (AnswersAlone (limits_of_index opened.index)) [] (first_log result.1)
-        (S.left source.old) (S.left source.new)
-        (K.written sink.old) (K.written sink.new) most result.0 }
-    ensures read_faults { Counts (result.0 ≡ Ended.ReadFault)
-        (S.read_faults source.old) (S.read_faults source.new) }
-    ensures write_faults { Counts (result.0 ≡ Ended.WriteFault)
-        (K.write_faults sink.old) (K.write_faults sink.new) }
+        (ends_of (S.state source.old) (K.state sink.old))
+        (ends_of (S.state source.new) (K.state sink.new)) most result.0 }
+    ensures read_faults { CountsRead (result.0 ≡ Ended.ReadFault)
+        (S.state source.old) (S.state source.new) }
+    ensures write_faults { CountsWrite (result.0 ≡ Ended.WriteFault)
+        (K.state sink.old) (K.state sink.new) }
 {
     let Opened {
         index,
@@ -72,12 +72,12 @@ fn serve_by<N: Name, R: Wait + Copy, S: Source, K: Sink>(
     ensures alone { IsAlone (limits_of_index index.now) (caller_with index.now result.1) }
     ensures session { AllByZero (seen_by (caller_with index.now result.1))
         → Serves (AnswersAlone (limits_of_index index.now)) (log_of pass) (log_of result.1)
-        (S.left source.old) (S.left source.new)
-        (K.written sink.old) (K.written sink.new) most result.0 }
-    ensures read_faults { Counts (result.0 ≡ Ended.ReadFault)
-        (S.read_faults source.old) (S.read_faults source.new) }
-    ensures write_faults { Counts (result.0 ≡ Ended.WriteFault)
-        (K.write_faults sink.old) (K.write_faults sink.new) }
+        (ends_of (S.state source.old) (K.state sink.old))
+        (ends_of (S.state source.new) (K.state sink.new)) most result.0 }
+    ensures read_faults { CountsRead (result.0 ≡ Ended.ReadFault)
+        (S.state source.old) (S.state source.new) }
+    ensures write_faults { CountsWrite (result.0 ≡ Ended.WriteFault)
+        (K.state sink.old) (K.state sink.new) }
 {
     let mut waiter = Waiter::new(index, pass, keeper);
     let ended = serve_one(rt, &mut waiter, source, sink, most);

@@ -2,7 +2,7 @@
 ghost use Rattle.std.specs.Prelude.{◌≡◌, ◌≢◌, ◌≤◌, ℕ, IsSome, IsSomeAnd};
 ghost use Rattle.command_line.specs.declared.answers.Command.{Command};
 ghost use Rattle.command_line.specs.Command.{IsCommand, asked_limits, texts_of};
-ghost use Rattle.line_session.specs.Ends.{Counts};
+ghost use Rattle.line_session.specs.Ends.{CountsRead, CountsWrite, ends_of};
 ghost use Rattle.word_layout.specs.Limits.{IsFirstBroken, KeepsRules};
 ghost use Rattle.xindex_core.specs.Opened.{IsNewlyOpened};
 ghost use Rattle.xindex_core.specs.Passes.{limits_of_index};
@@ -36,7 +36,8 @@ pub fn xindex<R: Wait + Copy, S: Source, K: Sink>(
     ensures session { (command : Command) → IsCommand (texts_of words.now) command
         → KeepsRules (asked_limits (texts_of words.now))
         → PipesOrLacksMemory command.limits command.bytes
-        (S.left source.old) (S.left source.new) (K.written sink.old) (K.written sink.new) result }
+        (ends_of (S.state source.old) (K.state sink.old))
+        (ends_of (S.state source.new) (K.state sink.new)) result }
 
     // An index is handed out only where the words ask for one.
     ensures opened { IsSome result.opened → (command : Command)
@@ -45,25 +46,28 @@ pub fn xindex<R: Wait + Copy, S: Source, K: Sink>(
     // Only words that ask for nothing are bad usage. They are told so; nothing is read or opened.
     ensures usage { result.status ≡ Status.Usage → IsNoCommand (texts_of words.now) }
     ensures refusal { IsNoCommand (texts_of words.now) → OnlyRefuses usage_line Status.Usage
-        (S.left source.old) (S.left source.new) (K.written sink.old) (K.written sink.new) result }
+        (ends_of (S.state source.old) (K.state sink.old))
+        (ends_of (S.state source.new) (K.state sink.new)) result }
 
     // Only limits that break a rule are bad: the first such rule is told, nothing is read or opened.
     ensures limits { result.status ≡ Status.BadLimits
         → (number : ℕ) × AsksBadLimits (texts_of words.now) number }
     ensures limits_refusal { (number : ℕ) → AsksBadLimits (texts_of words.now) number
         → OnlyRefuses (limit_line number) Status.BadLimits
-        (S.left source.old) (S.left source.new) (K.written sink.old) (K.written sink.new) result }
+        (ends_of (S.state source.old) (K.state sink.old))
+        (ends_of (S.state source.new) (K.state sink.new)) result }
 
     // Want of memory comes before anything is read or written.
-    ensures memory_unread { result.status ≡ Status.Memory → S.left source.new ≡ S.left source.old }
+    ensures memory_unread { result.status ≡ Status.Memory
+        → (S.state source.new).left ≡ (S.state source.old).left }
     ensures memory_unwritten { result.status ≡ Status.Memory
-        → K.written sink.new ≡ K.written sink.old }
+        → (K.state sink.new).written ≡ (K.state sink.old).written }
 
     // A fault is the status wherever an end has counted one, and nowhere else.
-    ensures read_faults { Counts (result.status ≡ Status.ReadFault)
-        (S.read_faults source.old) (S.read_faults source.new) }
-    ensures write_faults { Counts (result.status ≡ Status.WriteFault)
-        (K.write_faults sink.old) (K.write_faults sink.new) }
+    ensures read_faults { CountsRead (result.status ≡ Status.ReadFault)
+        (S.state source.old) (S.state source.new) }
+    ensures write_faults { CountsWrite (result.status ≡ Status.WriteFault)
+        (K.state sink.old) (K.state sink.new) }
 {
     match read_command(alloc, words) {
         Ok(command) => run(rt, alloc, command, source, sink),
@@ -84,21 +88,24 @@ fn run<R: Wait + Copy, S: Source, K: Sink>(
 ) -> Outcome
     requires { 1 ≤ command.bytes }
     ensures session { KeepsRules command.limits → PipesOrLacksMemory command.limits command.bytes
-        (S.left source.old) (S.left source.new) (K.written sink.old) (K.written sink.new) result }
+        (ends_of (S.state source.old) (K.state sink.old))
+        (ends_of (S.state source.new) (K.state sink.new)) result }
     ensures opened { IsSome result.opened → KeepsRules command.limits }
     ensures no_usage { result.status ≢ Status.Usage }
     ensures limits { result.status ≡ Status.BadLimits
         → (number : ℕ) × IsFirstBroken command.limits number }
     ensures limits_refusal { (number : ℕ) → IsFirstBroken command.limits number
         → OnlyRefuses (limit_line number) Status.BadLimits
-        (S.left source.old) (S.left source.new) (K.written sink.old) (K.written sink.new) result }
-    ensures memory_unread { result.status ≡ Status.Memory → S.left source.new ≡ S.left source.old }
+        (ends_of (S.state source.old) (K.state sink.old))
+        (ends_of (S.state source.new) (K.state sink.new)) result }
+    ensures memory_unread { result.status ≡ Status.Memory
+        → (S.state source.new).left ≡ (S.state source.old).left }
     ensures memory_unwritten { result.status ≡ Status.Memory
-        → K.written sink.new ≡ K.written sink.old }
-    ensures read_faults { Counts (result.status ≡ Status.ReadFault)
-        (S.read_faults source.old) (S.read_faults source.new) }
-    ensures write_faults { Counts (result.status ≡ Status.WriteFault)
-        (K.write_faults sink.old) (K.write_faults sink.new) }
+        → (K.state sink.new).written ≡ (K.state sink.old).written }
+    ensures read_faults { CountsRead (result.status ≡ Status.ReadFault)
+        (S.state source.old) (S.state source.new) }
+    ensures write_faults { CountsWrite (result.status ≡ Status.WriteFault)
+        (K.state sink.old) (K.state sink.new) }
 {
     match Index::open(alloc, command.limits, &[]) {
         Ok(opened) => match command.mode {
@@ -120,12 +127,12 @@ fn pipe<R: Wait + Copy, S: Source, K: Sink>(
     requires most { 1 ≤ most }
     requires new { IsNewlyOpened (limits_of_index opened.index) opened }
     ensures session { IsSomeAnd result.opened (Pipes (limits_of_index opened.index) most
-        (S.left source.old) (S.left source.new)
-        (K.written sink.old) (K.written sink.new) result.status) }
-    ensures read_faults { Counts (result.status ≡ Status.ReadFault)
-        (S.read_faults source.old) (S.read_faults source.new) }
-    ensures write_faults { Counts (result.status ≡ Status.WriteFault)
-        (K.write_faults sink.old) (K.write_faults sink.new) }
+        (ends_of (S.state source.old) (K.state sink.old))
+        (ends_of (S.state source.new) (K.state sink.new)) result.status) }
+    ensures read_faults { CountsRead (result.status ≡ Status.ReadFault)
+        (S.state source.old) (S.state source.new) }
+    ensures write_faults { CountsWrite (result.status ≡ Status.WriteFault)
+        (K.state sink.old) (K.state sink.new) }
 {
     let (ended, opened) = serve_alone::<Brand, R, S, K>(rt, opened, source, sink, most);
     Outcome {
@@ -149,10 +156,10 @@ fn status_of(ended: Ended) -> Status
 // Tells which rule the limits break first.
 fn refuse_limits<K: Sink>(sink: &mut K, number: u32) -> Status
     ensures refusal { Refuses (limit_line number) Status.BadLimits
-        (K.written sink.old) (K.written sink.new) result }
+        (K.state sink.old).written (K.state sink.new).written result }
     ensures no_memory { result ≢ Status.Memory }
-    ensures write_faults { Counts (result ≡ Status.WriteFault)
-        (K.write_faults sink.old) (K.write_faults sink.new) }
+    ensures write_faults { CountsWrite (result ≡ Status.WriteFault)
+        (K.state sink.old) (K.state sink.new) }
 {
     let mut line = [0; 80];
     let len = write_number(b"bad limit ", u64::from(number), &mut line);
@@ -163,10 +170,11 @@ fn refuse_limits<K: Sink>(sink: &mut K, number: u32) -> Status
 fn refuse<K: Sink>(sink: &mut K, line: &[u8], refused: Status) -> Status
     requires no_fault { refused ≢ Status.WriteFault }
     requires not_for_memory { refused ≢ Status.Memory }
-    ensures refusal { Refuses line.now refused (K.written sink.old) (K.written sink.new) result }
+    ensures refusal { Refuses line.now refused
+        (K.state sink.old).written (K.state sink.new).written result }
     ensures no_memory { result ≢ Status.Memory }
-    ensures write_faults { Counts (result ≡ Status.WriteFault)
-        (K.write_faults sink.old) (K.write_faults sink.new) }
+    ensures write_faults { CountsWrite (result ≡ Status.WriteFault)
+        (K.state sink.old) (K.state sink.new) }
 {
     match write_all(sink, line) {
         Ok(()) => refused,

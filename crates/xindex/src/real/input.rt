@@ -32,13 +32,12 @@ impl<R: Read + Drop> StandardInput<R> {
 impl<R: Read + Drop> Ends for StandardInput<R> {
     ghost use Rattle.std.specs.Prelude.{None};
 
-    ghost left = { λ _. None };
-
-    ghost read_faults = { λ s. s };
-
-    ghost written = { λ _. None };
-
-    ghost write_faults = { λ _. 0 };
+    ghost state = { λ s. record {
+      left = None;
+      read_faults = s;
+      written = None;
+      write_faults = 0;
+    } };
 }
 
 impl<R: Read + Drop> Source for StandardInput<R> {

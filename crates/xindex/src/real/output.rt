@@ -32,13 +32,12 @@ impl<W: Write + Drop> StandardOutput<W> {
 impl<W: Write + Drop> Ends for StandardOutput<W> {
     ghost use Rattle.std.specs.Prelude.{None};
 
-    ghost left = { λ _. None };
-
-    ghost read_faults = { λ _. 0 };
-
-    ghost written = { λ _. None };
-
-    ghost write_faults = { λ s. s };
+    ghost state = { λ s. record {
+      left = None;
+      read_faults = 0;
+      written = None;
+      write_faults = s;
+    } };
 }
 
 impl<W: Write + Drop> Sink for StandardOutput<W> {

@@ -7,8 +7,8 @@ abbrev pub invariant-loop-rest : goal.invariant-loop-rest
 invariant-loop-rest g l = record {
   front : List ℕ;
   split : l.piece ≡ front ++ l.rest;
-  written : g.K.Ends.written l.sink ≡ append_known (g.K.Ends.written l.initial.sink) front;
-  faults : g.K.Ends.write_faults l.sink ≡ g.K.Ends.write_faults l.initial.sink;
+  written : (g.K.Ends.state l.sink).written ≡ append_known (g.K.Ends.state l.initial.sink).written front;
+  faults : (g.K.Ends.state l.sink).write_faults ≡ (g.K.Ends.state l.initial.sink).write_faults;
 }
 
 abbrev pub decreases-loop-rest : goal.decreases-loop-rest

@@ -10,10 +10,10 @@ invariant-loop g l = record {
   ends : (goal.iterator-loop g).is_finite l.iterator';
   taken : List ℕ;
   written : List ℕ;
-  took : g.S.Ends.left l.initial.source ≡ prepend_known taken (g.S.Ends.left l.source);
-  told : g.K.Ends.written l.sink ≡ append_known (g.K.Ends.written l.initial.sink) written;
+  took : (g.S.Ends.state l.initial.source).left ≡ prepend_known taken (g.S.Ends.state l.source).left;
+  told : (g.K.Ends.state l.sink).written ≡ append_known (g.K.Ends.state l.initial.sink).written written;
   limit : length taken + l.left ≡ l.most;
   so_far : SoFar g.A.Answerer.answers l.initial.answerer l.answerer taken written l.feed;
-  read_faults : g.S.Ends.read_faults l.source ≡ g.S.Ends.read_faults l.initial.source;
-  write_faults : g.K.Ends.write_faults l.sink ≡ g.K.Ends.write_faults l.initial.sink;
+  read_faults : (g.S.Ends.state l.source).read_faults ≡ (g.S.Ends.state l.initial.source).read_faults;
+  write_faults : (g.K.Ends.state l.sink).write_faults ≡ (g.K.Ends.state l.initial.sink).write_faults;
 }

@@ -3,6 +3,7 @@ use Rattle.std.proofs.Common.{◌≡◌, ◌∙◌, ◌<◌, [], length, refl, s
 use Rattle.map_model.specs.Logs.{Log, changes_of}
 use Rattle.index_machine.specs.Execution.{Execution}
 use Rattle.index_machine.specs.LivePlaces.{history}
+use Rattle.line_session.specs.Ends.{ends_of}
 use Rattle.line_session.specs.Served.{Serves}
 use Rattle.xindex_core.specs.Alone.{AllByZero, AnswersAlone}
 use Rattle.xindex_core.specs.Passes.{caller_with, limits_of_index, log_of}
@@ -50,8 +51,8 @@ returns-clause-session g c =
     ∙ first_made_none c.args.opened.index 0 c.args.opened.passes.items c.remove-first.result
     c.requires.new.passes some in
     subst
-    (λ (z : Log × Log). Serves (AnswersAlone l) z.0 z.1 (g.S.Ends.left c.args.source.now)
-    (g.S.Ends.left c.serve_by-ended.new.source) (g.K.Ends.written c.args.sink.now)
-    (g.K.Ends.written c.serve_by-ended.new.sink) c.args.most c.serve_by-ended.result.0)
+    (λ (z : Log × Log). Serves (AnswersAlone l) z.0 z.1
+    (ends_of (g.S.Ends.state c.args.source.now) (g.K.Ends.state c.args.sink.now))
+    (ends_of (g.S.Ends.state c.serve_by-ended.new.source) (g.K.Ends.state c.serve_by-ended.new.sink)) c.args.most c.serve_by-ended.result.0)
     (λ j. (none j, sym c.told_all-passes.ensures.log j))
     (c.serve_by-ended.ensures.session until)

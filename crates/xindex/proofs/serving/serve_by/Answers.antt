@@ -1,6 +1,7 @@
 -- A session by a waiter is one that the log of its pass tells.
 use Rattle.std.proofs.Common.{subst, sym}
 use Rattle.map_model.specs.Logs.{Log}
+use Rattle.line_session.specs.Ends.{ends_of}
 use Rattle.line_session.specs.Served.{Serves}
 use Rattle.xindex_core.specs.declared.pass.Pass.{Pass}
 use Rattle.xindex_core.specs.declared.waiter.Waiter.{Waiter}
@@ -18,7 +19,7 @@ returns-clause-alone g c =
     c.requires.alone in
     subst (λ (p : Pass). IsAlone l (caller_with i p)) (sym c.finish.ensures.same)
     (alone_still (λ (w : Waiter g.row.N.Denot g.N.Name). w.index.now) (λ w. w.pass) i l
-    c.new-waiter.result c.serve_one-ended.new.answerer _ _ _ _ c.args.most c.serve_one-ended.result
+    c.new-waiter.result c.serve_one-ended.new.answerer _ _ c.args.most c.serve_one-ended.result
     c.serve_one-ended.ensures.session c.new-waiter.ensures.index alone)
 
 pub returns-clause-session : goal.returns-clause-session
@@ -29,10 +30,10 @@ returns-clause-session g c = λ own.
     c.requires.alone in
     let until = subst (λ (p : Pass). AllByZero (seen_by (caller_with i p))) c.finish.ensures.same own in
     let served = alone_serves (λ (w : Waiter g.row.N.Denot g.N.Name). w.index.now) (λ w. w.pass) i l
-    c.new-waiter.result c.serve_one-ended.new.answerer _ _ _ _ c.args.most c.serve_one-ended.result
+    c.new-waiter.result c.serve_one-ended.new.answerer _ _ c.args.most c.serve_one-ended.result
     c.serve_one-ended.ensures.session c.new-waiter.ensures.index alone until in
     subst
-    (λ (z : Log × Log). Serves (AnswersAlone l) z.0 z.1 (g.S.Ends.left c.args.source.now)
-    (g.S.Ends.left c.serve_one-ended.new.source) (g.K.Ends.written c.args.sink.now)
-    (g.K.Ends.written c.serve_one-ended.new.sink) c.args.most c.serve_one-ended.result)
+    (λ (z : Log × Log). Serves (AnswersAlone l) z.0 z.1
+    (ends_of (g.S.Ends.state c.args.source.now) (g.K.Ends.state c.args.sink.now))
+    (ends_of (g.S.Ends.state c.serve_one-ended.new.source) (g.K.Ends.state c.serve_one-ended.new.sink)) c.args.most c.serve_one-ended.result)
     (λ j. (log_of (c.new-waiter.ensures.pass j), log_of (sym c.finish.ensures.same j))) served

@@ -2,6 +2,7 @@ use Rattle.std.proofs.Common.{subst}
 use Rattle.command_line.specs.Command.{texts_of}
 use Rattle.command_line.specs.declared.answers.Command.{Command}
 use Rattle.command_line.proofs.CommandLaws.{asked_breaks, breaks_asked, keeps_asked, one_command}
+use Rattle.line_session.specs.Ends.{ends_of}
 use Rattle.xindex.specs.Outcome.{PipesOrLacksMemory}
 use Rattle.xindex.proofs.top.xindex.Goals as goal
 
@@ -9,8 +10,8 @@ pub returns-in-Ok-clause-session : goal.returns-in-Ok-clause-session
 returns-in-Ok-clause-session g c = λ command asks kept.
     let words = texts_of c.args.words.now in
     subst (λ (one : Command). PipesOrLacksMemory one.limits one.bytes
-    (g.S.Ends.left c.args.source.now) (g.S.Ends.left c.run.new.source)
-    (g.K.Ends.written c.args.sink.now) (g.K.Ends.written c.run.new.sink) c.run.result)
+    (ends_of (g.S.Ends.state c.args.source.now) (g.K.Ends.state c.args.sink.now))
+    (ends_of (g.S.Ends.state c.run.new.source) (g.K.Ends.state c.run.new.sink)) c.run.result)
     (one_command words c.in-Ok.command command c.in-Ok.ensures.ok asks)
     (c.run.ensures.session (keeps_asked words c.in-Ok.command c.in-Ok.ensures.ok kept))
 
