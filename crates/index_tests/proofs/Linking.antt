@@ -65,7 +65,7 @@ seven_on b place h k has seven =
 
 -- ---- group 0 ----
 
-group_of_zero : (o : Opening) (t : Execution) → AreBuilt t → group_of o 0 t ≡ 0
+pub group_of_zero : (o : Opening) (t : Execution) → AreBuilt t → group_of o 0 t ≡ 0
 group_of_zero o t built = ((groups_as_opened o t built).0 0).0
 
 group_of_seven : (o : Opening) (t : Execution) → AreBuilt t → group_of o 7 t ≡ 0

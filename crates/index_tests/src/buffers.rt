@@ -1,4 +1,8 @@
 //! A row is linked where its key was not found, and is found then.
+ghost use Rattle.std.specs.Prelude.{◌≡◌};
+ghost use Rattle.index_machine.specs.Sections.{IsKeeper};
+ghost use Rattle.index_machine.specs.Words.{limits};
+ghost use Rattle.index_rule.specs.Hands.{IsHandOf, opening_of};
 ghost use Rattle.index_rule.specs.OwnRows.{place_of_private};
 ghost use Rattle.delta_buffer.specs.Searching.{CanSearch};
 ghost use Rattle.index_tests.specs.Boards.{IsInside, RestsWithNoRow};
@@ -56,10 +60,31 @@ fn link(rt: &impl Abort, board: &Board, hand: &mut Hand, row: PrivateRow)
     }
 }
 
+// How many rows the caller counts.
+fn count_of_caller(board: &Board, hand: &mut Hand) -> u32
+    requires { CanSearch board.now 0 hand.old }
+    ensures { CanSearch board.now 0 hand.new }
+{
+    count(board, hand, 0)
+}
+
+// How many rows the keeper counts, which has to know first that group 0 is in use.
+fn count_of_keeper(board: &Board, keeper: &mut Hand) -> u32
+    requires groups { (limits (opening_of board.now)).groups ≡ 2 }
+    requires hand { IsHandOf board.now keeper.old }
+    requires number { IsKeeper (opening_of board.now) keeper.old.number }
+{
+    board.load_root(keeper);
+    count(board, keeper, 0)
+}
+
 #[test]
 fn a_row_is_found_once_it_is_linked(rt: HostRuntime) {
     let (board, mut hands) = opened(&rt, rt.alloc(), SMALL, &[]);
     let mut hand = next_hand(&rt, &board, 0, &mut hands);
+    let _second = next_hand(&rt, &board, 1, &mut hands);
+    let _third = next_hand(&rt, &board, 2, &mut hands);
+    let mut keeper = next_hand(&rt, &board, 3, &mut hands);
     let row = enter_with_row(&rt, &board, &mut hand);
     let place = row.place();
     come_to_group(&board, &mut hand, &row);
@@ -77,7 +102,8 @@ fn a_row_is_found_once_it_is_linked(rt: HostRuntime) {
     assert_eq!(rt; find(&board, &mut hand, 0, 8), behind);
     assert_eq!(rt; first_from(&board, &mut hand, 0, 6), Some(place));
     assert_eq!(rt; first_from(&board, &mut hand, 0, 8), None);
-    assert_eq!(rt; count(&board, &mut hand, 0), 1);
+    assert_eq!(rt; count_of_caller(&board, &mut hand), 1);
+    assert_eq!(rt; count_of_keeper(&board, &mut keeper), 1);
 }
 
 #[test]
@@ -86,6 +112,6 @@ fn a_buffer_without_a_row_counts_none(rt: HostRuntime) {
     let mut hand = next_hand(&rt, &board, 0, &mut hands);
     let row = enter_with_row(&rt, &board, &mut hand);
     come_to_group(&board, &mut hand, &row);
-    assert_eq!(rt; count(&board, &mut hand, 0), 0);
+    assert_eq!(rt; count_of_caller(&board, &mut hand), 0);
     row.forget();
 }

@@ -9,7 +9,7 @@ use std::marker::Brand;
 use std::process::Abort;
 use std::sync::{Mutex, Wait};
 use word_layout::{LAST_VERSION, Limits};
-use xindex_core::{Index, Keeper, Name, NamedKeeper, NamedPass, Pass, Waiter};
+use xindex_core::{Index, Keeper, Name, NamedKeeper, NamedPass, Pass, Tried, Waiter};
 
 // Asks each call of a waiter, which has to answer as the table says, and gives the pass back.
 fn waited<N: Name, R: Wait + Copy + Abort>(
