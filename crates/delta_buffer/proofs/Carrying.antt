@@ -21,7 +21,7 @@ use Rattle.index_rule.specs.Hands.{IsHandOf, Makes, MakesAll, known, opening_of}
 use Rattle.index_rule.proofs.Standing.{stays_inside}
 use Rattle.index_rule.proofs.Stepping.{held_word_is, known_is, others_only, still_holds}
 use Rattle.index_rule.proofs.Stepping.{valid_known}
-use Rattle.delta_buffer.proofs.Stepping.{no_crossing}
+use Rattle.delta_buffer.proofs.Following.{no_crossing}
 use Rattle.delta_buffer.specs.Walks.{AreWalkOf, IsWalkOf, Walks}
 
 keeps_roles : (g : ℕ) (d : Action) → IsWalkOf g d → KeepsRoles d

@@ -1,5 +1,6 @@
 pub mod CallSteps
 pub mod Links
+pub mod Following
 pub mod Stepping
 pub mod Linking
 pub mod Carrying

@@ -4,13 +4,13 @@ use Rattle.std.proofs.Common.{true, ◌∷◌, refl, ap, arith, eq-eqb}
 use Rattle.word_layout.specs.declared.places.Part.TheVariants as part
 use Rattle.word_layout.specs.Words.{PlaceWord}
 use Rattle.word_layout.proofs.RowPlaces.{row-nonzero}
+use Rattle.index_machine.specs.declared.events.Action.TheVariants.{LoadLink}
 use Rattle.index_machine.specs.declared.opening.Opening.{Opening}
 use Rattle.index_machine.specs.Conditions.{Allowed, Valid}
 use Rattle.index_machine.specs.Execution.{Execution, event}
 use Rattle.index_machine.specs.Reaching.{names_place, reached}
 use Rattle.index_machine.specs.RecordConditions.{IsLinkInto}
 use Rattle.index_machine.specs.Rows.{InBuffer, Role, role, role_key}
-use Rattle.index_machine.specs.Sections.{IsCaller}
 use Rattle.index_machine.specs.Words.{limits, link_behind, word}
 use Rattle.index_machine.proofs.Placing.{buffer_row}
 use Rattle.index_rule.specs.Records.{key_at, or_zero}
@@ -40,13 +40,17 @@ pub link_is_walk : (g p q : ℕ) → IsWalkOf g (load_of_link g p q)
 link_is_walk g zero q = refl
 link_is_walk g (suc n) q = refl
 
--- it finds the word there, which leads to no row or to one of the buffer
+-- of a row it is that of the row's link
+pub link_load : (g p q : ℕ) → p ≢ 0 → load_of_link g p q ≡ LoadLink g p q
+link_load g zero q some = absurd (some refl)
+link_load g (suc n) q some = refl
+
+-- it finds the word there
 pub link_says : (o : Opening) (hand g p q : ℕ) (t : Execution) →
     Allowed o t hand (load_of_link g p q) →
-    (word o (event hand (load_of_link g p q) ∷ t) (link_behind g p) ≡ q)
-    × (IsCaller o hand → IsLinkInto o g q (event hand (load_of_link g p q) ∷ t))
-link_says o hand g zero q t may = (may.found_word, may.says)
-link_says o hand g (suc n) q t may = (may.found_word, may.says)
+    word o (event hand (load_of_link g p q) ∷ t) (link_behind g p) ≡ q
+link_says o hand g zero q t may = may.found_word
+link_says o hand g (suc n) q t may = may.found_word
 
 -- the link names the place to which it leads
 names_own : (p : ℕ) → p ≢ 0 → names_place p p ≡ true

@@ -1,19 +1,17 @@
--- What a caller knows as it counts the rows of a buffer.
+-- What a hand knows as it counts the rows of a buffer, a caller's or the keeper's.
 --
 -- The fact to remember: rows that stood there at the beginning stand there still, and so do those that
 -- were met.
 use Rattle.std.proofs.Common.{◌≡◌, ◌≢◌, ◌⊎◌, inl, inr, ⊎_elim, ℕ, ◌+◌, ◌<◌, ◌≤◌, Some, None}
-use Rattle.std.proofs.Common.{[], ◌∷◌, ◌++◌, length, refl, sym, ap, ◌∙◌, subst, arith, true}
-use Rattle.map_model.specs.Map.{Map, look}
+use Rattle.std.proofs.Common.{[], ◌∷◌, ◌++◌, length, refl, sym, ap, ◌∙◌, subst, arith}
+use Rattle.map_model.specs.Map.{look}
 use Rattle.word_layout.specs.declared.places.Part.TheVariants.{Link}
 use Rattle.word_layout.specs.Words.{PlaceWord}
 use Rattle.index_machine.specs.declared.opening.Opening.{Opening}
 use Rattle.index_machine.specs.Conditions.{Valid}
 use Rattle.index_machine.specs.Execution.{Execution, event}
-use Rattle.index_machine.specs.Reaching.{stands_in}
 use Rattle.index_machine.specs.RecordConditions.{IsLinkInto}
 use Rattle.index_machine.specs.Rows.{InBuffer, role}
-use Rattle.index_machine.specs.Sections.{IsCaller, StaysInside}
 use Rattle.index_machine.specs.Words.{limits, word}
 use Rattle.index_machine.proofs.Executions.{valid_before}
 use Rattle.index_machine.proofs.OpeningRows.{opening_role-row}
@@ -26,45 +24,20 @@ use Rattle.machine_buffers.proofs.Walks.{rise, rises}
 use Rattle.machine_places.specs.RowCounts.{all_rows}
 use Rattle.machine_places.proofs.Forms.{none_some}
 use Rattle.machine_readers.specs.Buffers.{rows}
-use Rattle.machine_readers.proofs.ReadSections.{place_on}
 use Rattle.index_rule.specs.declared.board.Board.{Board}
 use Rattle.index_rule.specs.declared.hand.Hand.{Hand}
 use Rattle.index_rule.specs.Hands.{known, opening_of}
 use Rattle.index_rule.proofs.Calls.{HasBegun, begun_on, goes_on}
-use Rattle.index_rule.proofs.RecordStepping.{goes_on_inside, now, since}
-use Rattle.index_rule.proofs.Stepping.{valid_after}
 use Rattle.row_arena.proofs.UsedRows.{rows-length}
-use Rattle.delta_buffer.specs.Searching.{CanSearch, IsReachedRow}
+use Rattle.delta_buffer.specs.Following.{CanFollow}
+use Rattle.delta_buffer.specs.Searching.{IsReachedRow}
 use Rattle.delta_buffer.specs.Walks.{FollowsLink, load_of_link}
 use Rattle.delta_buffer.proofs.KeyCounts.{below_fits, below_kept, below_least, below_most}
 use Rattle.delta_buffer.proofs.KeyCounts.{below_next_least, below_next_most, below_zero, keys_below}
 use Rattle.delta_buffer.proofs.Links.{buffer_key, link_is_walk, link_of_row, row_some}
 use Rattle.delta_buffer.proofs.CallSteps.{begun_since}
-use Rattle.delta_buffer.proofs.Stepping.{IsOn, arrives, empty_from, no_crossing, sets_out}
-
--- ---- rows stay ----
-
--- each row of the one is a row of the other
-abbrev pub AllAmong : Map → Map → Type 0
-AllAmong m u = (k q : ℕ) → look m k ≡ Some q → look u k ≡ Some q
-
-rows_while : (o : Opening) (c g : ℕ) → IsCaller o c → (n t : Execution) → Valid o (n ++ t) →
-    StaysInside c n → stands_in c g t ≡ true → IsWalkable o g t →
-    AllAmong (rows g t) (rows g (n ++ t))
-rows_while o c g is n t valid stay s w k q e =
-    let there = w.standing k q e in
-    all_listed o (n ++ t) valid g k q
-    (place_on o c g is q k n t valid stay s (inr there) ∙ there)
-
-rows_follow : (b : Board) (g before next : ℕ) (h k : Hand) → CanSearch b g h →
-    FollowsLink b h g before next k → AllAmong (rows g (known h)) (rows g (known k))
-rows_follow b g before next h k can follows =
-    let d = load_of_link g before next in
-    let none = no_crossing g d (link_is_walk g before next) in
-    now b h k d can.call.of follows (λ z t. AllAmong (rows g (known h)) (rows g t))
-    (rows_while (opening_of b) h.number g can.call.reading.caller (since b h k d can.call.of follows)
-    (known h) (valid_after b h k d can.call.of follows) (goes_on_inside b h k d can.call.of follows none)
-    can.stands can.walkable)
+use Rattle.delta_buffer.proofs.Following.{AllAmong, rows_on}
+use Rattle.delta_buffer.proofs.Stepping.{IsOn, arrives, empty_from, sets_out}
 
 -- ---- a table's rows ----
 
@@ -87,7 +60,7 @@ abbrev StandsBehind : Opening → ℕ → ℕ → ℕ → Execution → Type 0
 StandsBehind o g before low t =
     ((before ≡ 0) × (low ≡ 0)) ⊎ ((j : ℕ) × (role o before t ≡ InBuffer g j) × (low ≡ j + 1))
 
--- the caller has counted the rows behind which it loaded a link
+-- the hand has counted the rows behind which it loaded a link
 pub record HasCounted (b : Board) (g next count : ℕ) (h m : Hand) : Type 0 where
   pub before : ℕ
   pub low : ℕ
@@ -98,7 +71,7 @@ pub record HasCounted (b : Board) (g next count : ℕ) (h m : Hand) : Type 0 whe
   pub most : count ≤ keys_below low (rows g (known m))
 
 -- it begins with the head
-pub counts_none : (b : Board) (g next : ℕ) (h k : Hand) → CanSearch b g h →
+pub counts_none : (b : Board) (g next : ℕ) (h k : Hand) → CanFollow b g h →
     FollowsLink b h g 0 next k → HasCounted b g next 0 h k
 counts_none b g next h k can follows =
     record {
@@ -106,7 +79,7 @@ counts_none b g next h k can follows =
       low = 0;
       on = sets_out b g 0 next h k can follows;
       behind = inl (refl, refl);
-      kept = rows_follow b g 0 next h k can follows;
+      kept = rows_on b g h k (load_of_link g 0 next) (link_is_walk g 0 next) follows can;
       least = let none = below_zero (rows g (known h)) in omega arith;
       most = omega arith;
     }
@@ -130,7 +103,7 @@ module _ (b : Board) (g next count : ℕ) (h m : Hand) (has : HasCounted b g nex
       let row = row_some o (known m) g has.before z.0 has.on.valid z.1 in
       let leads : word o (known m) (PlaceWord has.before Link) ≡ next =
       ap (word o (known m)) (sym (link_of_row g has.before row)) ∙ has.on.leads in
-      let up = rises o (known m) has.on.valid g has.before next z.0 met.0 has.on.search.walkable
+      let up = rises o (known m) has.on.valid g has.before next z.0 met.0 has.on.can.walkable
       z.1 leads met.1.0 in
       let is = z.2 in
       omega arith)
@@ -156,7 +129,7 @@ module _ (b : Board) (g next count : ℕ) (h m : Hand) (has : HasCounted b g nex
   pub room : count + 1 ≤ (limits (opening_of b)).records
   room =
       let fits = rows_fit (opening_of b) g (met.0 + 1) (known m) has.on.valid
-      has.on.search.walkable in
+      has.on.can.walkable in
       let more = one_more in
       omega arith
 
@@ -166,17 +139,18 @@ module _ (b : Board) (g next count : ℕ) (h m : Hand) (has : HasCounted b g nex
   pub counts_on : (next2 : ℕ) (k : Hand) → FollowsLink b m g next next2 k →
       HasCounted b g next2 (count + 1) h k
   counts_on next2 k follows =
-      let on = arrives b g (met.0 + 1) next next2 h m k has.on.search has.on.number
+      let on = arrives b g (met.0 + 1) next next2 h m k has.on.can has.on.search has.on.number
       (begun_since h (known m) has.on.begun) has.on.log
       has.on.walks
-      (λ d q. begun_on h (known m) (known k) has.on.begun (goes_on b m k d has.on.search.call.of q))
+      (λ d q. begun_on h (known m) (known k) has.on.begun (goes_on b m k d has.on.can.of q))
       (inr (met.0, met.1.0, omega arith)) follows in
-      let stay = rows_follow b g next next2 m k has.on.search follows in
+      let stay = rows_on b g m k (load_of_link g next next2) (link_is_walk g next next2) follows
+      has.on.can in
       record {
         before = next;
         low = met.0 + 1;
         on = on;
-        behind = inr (met.0, on.search.walkable.standing met.0 next (stay met.0 next there), refl);
+        behind = inr (met.0, on.can.walkable.standing met.0 next (stay met.0 next there), refl);
         kept = λ i q e. stay i q (has.kept i q e);
         least =
             let more = below_next_most has.low met.0 (rows g (known h)) none_at_first in

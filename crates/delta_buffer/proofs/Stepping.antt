@@ -1,12 +1,13 @@
 -- What a caller knows on its walk, after each load.
 use Rattle.std.proofs.Common.{Some, None, ◌≤◌, ◌≡◌, ◌≢◌, ◌⊎◌, ℕ, ◌<◌, inl, inr, ⊎_elim}
-use Rattle.std.proofs.Common.{[], ◌∷◌, ◌++◌, refl, sym, ap, ◌∙◌, subst, arith}
+use Rattle.std.proofs.Common.{true, [], ◌∷◌, ◌++◌, refl, sym, ap, ◌∙◌, subst, arith}
 use Rattle.map_model.specs.Map.{look}
 use Rattle.index_machine.specs.declared.events.Action.{Action}
 use Rattle.index_machine.specs.declared.events.Action.TheVariants.{LoadHead, LoadKey, LoadLink}
 use Rattle.index_machine.specs.declared.opening.Opening.{Opening}
 use Rattle.index_machine.specs.Conditions.{Valid}
-use Rattle.index_machine.specs.Execution.{Continues, Execution, event}
+use Rattle.index_machine.specs.Execution.{Continues, Execution}
+use Rattle.index_machine.specs.Reaching.{reached}
 use Rattle.index_machine.specs.RecordConditions.{IsAt, IsLinkInto}
 use Rattle.index_machine.specs.Rows.{InBuffer, role, role_key}
 use Rattle.index_machine.specs.Sections.{IsNoCrossing}
@@ -29,17 +30,14 @@ use Rattle.index_rule.proofs.RecordStepping.{still_at, still_reached, still_stan
 use Rattle.index_rule.proofs.Stepping.{known_is, still_holds_no_lock, valid_after, valid_known}
 use Rattle.delta_buffer.specs.Searching.{CanSearch, FindsFirst, FindsGap, IsReachedRow}
 use Rattle.delta_buffer.specs.Walks.{FollowsLink, HasJustMade, IsWalkOf, Walks, load_of_link}
+use Rattle.delta_buffer.specs.Following.{CanFollow}
 use Rattle.delta_buffer.proofs.CallSteps.{begun_since, just_made}
+use Rattle.delta_buffer.proofs.Following.{before_on, follow_on, leads_into, leads_there}
+pub use Rattle.delta_buffer.proofs.Following.{no_crossing}
 use Rattle.delta_buffer.proofs.Links.{buffer_key, left_none, left_some, link_is_walk, link_of_row}
-use Rattle.delta_buffer.proofs.Links.{link_reaches, link_says, rise_left, row_some}
+use Rattle.delta_buffer.proofs.Links.{link_reaches, rise_left, row_some}
 
 -- ---- the loads of a walk ----
-
-pub no_crossing : (g : ℕ) (d : Action) → IsWalkOf g d → IsNoCrossing d
-no_crossing g (LoadHead h n) is = tt
-no_crossing g (LoadLink h p n) is = tt
-no_crossing g (LoadKey p n) is = tt
-no_crossing g d is = absurd is
 
 takes_none : (g : ℕ) (d : Action) → IsWalkOf g d → TakesLock d → ⊥
 takes_none g (LoadHead h n) is takes = takes
@@ -97,9 +95,10 @@ module _ (b : Board) (g : ℕ) (h k : Hand) (d : Action) (is : IsWalkOf g d) (m 
 abbrev pub LeadsOn : Opening → ℕ → ℕ → ℕ → Execution → Type 0
 LeadsOn o hand g next t = (next ≡ 0) ⊎ ((j : ℕ) × IsReachedRow o hand g j next t)
 
--- what a caller knows on its walk to a key, as it has loaded the link behind a place
+-- what a hand knows on its walk to a key, as it has loaded the link behind a place
 pub record IsOn (b : Board) (g key before next : ℕ) (h m : Hand) : Type 0 where
-  pub search : CanSearch b g m
+  pub can : CanFollow b g m
+  pub search : CanSearch b g h → CanSearch b g m
   pub number : m.number ≡ h.number
   pub log : AddsNoEntry h m
   pub walks : Walks b g h m
@@ -110,57 +109,64 @@ pub record IsOn (b : Board) (g key before next : ℕ) (h m : Hand) : Type 0 wher
   pub behind : IsLinkBefore (opening_of b) g key before (known m)
   pub ahead : LeadsOn (opening_of b) m.number g next (known m)
 
--- the link that was loaded is there, and leads on
-leads_on : (b : Board) (g before next : ℕ) (i k : Hand) → CanSearch b g i →
-    FollowsLink b i g before next k →
-    (word (opening_of b) (known k) (link_behind g before) ≡ next)
-    × LeadsOn (opening_of b) k.number g next (known k)
-leads_on b g before next i k can follows =
+-- the link that was loaded leads on
+leads_on : (b : Board) (g before next : ℕ) (i k : Hand) → CanFollow b g i →
+    IsLinkInto (opening_of b) g before (known i) → FollowsLink b i g before next k →
+    LeadsOn (opening_of b) k.number g next (known k)
+leads_on b g before next i k can into follows =
     let o = opening_of b in
     let d = load_of_link g before next in
-    let t : Execution = event i.number d ∷ follows.acts.0 ++ known i in
-    let valid = valid_after b i k d can.call.of follows in
-    let says = link_says o i.number g before next (follows.acts.0 ++ known i) valid.0 in
-    now b i k d can.call.of follows
-    (λ c u. (word o u (link_behind g before) ≡ next) × LeadsOn o c g next u) (
-      says.0,
-      ⊎_elim (λ (z : next ≡ 0). inl z)
-          (λ (z : (j : ℕ) × (role o next t ≡ InBuffer g j)).
-          let some = row_some o t g next z.0 valid z.1 in
-          inr (z.0, (z.1, link_reaches i.number g before next (follows.acts.0 ++ known i) some)))
-          (says.1 can.call.reading.caller),
-    )
+    let valid = valid_known b i k d can.of follows in
+    ⊎_elim (λ (z : next ≡ 0). inl z)
+    (λ (z : (j : ℕ) × (role o next (known k) ≡ InBuffer g j)).
+    let some = row_some o (known k) g next z.0 valid z.1 in
+    inr (
+      z.0,
+      (
+        z.1,
+        now b i k d can.of follows (λ c u. reached c next u ≡ true)
+            (link_reaches i.number g before next (follows.acts.0 ++ known i) some),
+      ),
+    ))
+    (leads_into b g before next i k can into follows)
+
+-- what stands before a key is a link into the buffer
+before_into : (o : Opening) (g key p : ℕ) (t : Execution) → IsLinkBefore o g key p t →
+    IsLinkInto o g p t
+before_into o g key p t before =
+    ⊎_elim (λ (z : p ≡ 0). inl z)
+    (λ (z : (j : ℕ) × (role o p t ≡ InBuffer g j) × (j < key)). inr (z.0, z.1)) before
 
 -- a link was loaded on the walk to a key that it stands before
-pub arrives : (b : Board) (g key before next : ℕ) (h i k : Hand) → CanSearch b g i →
-    i.number ≡ h.number → Continues (known h) (known i) → AddsNoEntry h i → Walks b g h i →
-    ((d : Action) → Makes b i d k → HasBegun h (known k)) →
+pub arrives : (b : Board) (g key before next : ℕ) (h i k : Hand) → CanFollow b g i →
+    (CanSearch b g h → CanSearch b g i) → i.number ≡ h.number → Continues (known h) (known i) →
+    AddsNoEntry h i → Walks b g h i → ((d : Action) → Makes b i d k → HasBegun h (known k)) →
     IsLinkBefore (opening_of b) g key before (known i) → FollowsLink b i g before next k →
     IsOn b g key before next h k
-arrives b g key before next h i k can same since log walks begun behind follows =
+arrives b g key before next h i k can search same since log walks begun behind follows =
     let d = load_of_link g before next in
     let is = link_is_walk g before next in
-    let leads = leads_on b g before next i k can follows in
+    let into = before_into (opening_of b) g key before (known i) behind in
     record {
-      search = search_on b g i k d is follows can;
+      can = follow_on b g i k d is follows can;
+      search = λ first. search_on b g i k d is follows (search first);
       number = follows.number ∙ same;
-      log = log_on b g i k d is follows h can.call.of log;
+      log = log_on b g i k d is follows h can.of log;
       walks = walks_on b g i k d is follows h walks;
-      loaded = just_made b h i k d since same can.call.of follows;
+      loaded = just_made b h i k d since same can.of follows;
       begun = begun d follows;
-      valid = valid_known b i k d can.call.of follows;
-      leads = leads.0;
-      behind = before_after b g key before i k d (no_crossing g d is) follows can behind;
-      ahead = leads.1;
+      valid = valid_known b i k d can.of follows;
+      leads = leads_there b g before next i k can into follows;
+      behind = before_on b g i k d is follows can key before behind;
+      ahead = leads_on b g before next i k can into follows;
     }
 
 -- the first one
-pub sets_out : (b : Board) (g key next : ℕ) (h k : Hand) → CanSearch b g h →
+pub sets_out : (b : Board) (g key next : ℕ) (h k : Hand) → CanFollow b g h →
     FollowsLink b h g 0 next k → IsOn b g key 0 next h k
 sets_out b g key next h k can follows =
-    arrives b g key 0 next h h k can refl (continues_same (known h)) refl ([], tt, refl)
-    (λ d m. begins b h k d can.call.of m)
-    (inl refl) follows
+    arrives b g key 0 next h h k can (λ first. first) refl (continues_same (known h)) refl
+    ([], tt, refl) (λ d m. begins b h k d can.of m) (inl refl) follows
 
 -- ---- what the link says ----
 
@@ -180,7 +186,7 @@ empty_from b g key before next h m on j le ahead =
     let o = opening_of b in
     let says : Decides o g j next (known m) =
     subst (λ (z : ℕ). Decides o g j z (known m)) on.leads
-    (decide o (known m) on.valid g j before on.search.walkable
+    (decide o (known m) on.valid g j before on.can.walkable
     (before_more o g key j before (known m) le on.behind))
     in
     ⊎_elim (λ (z : next ≡ 0). says.none z)
@@ -191,16 +197,17 @@ empty_from b g key before next h m on j le ahead =
 
 -- the caller is at the row to which a link led
 pub is_at_link : (b : Board) (g key before next : ℕ) (h m : Hand) →
-    IsOn b g key before next h m → next ≢ 0 → IsAt (opening_of b) m.number next (known m)
-is_at_link b g key before next h m on some =
+    CanSearch b g h → IsOn b g key before next h m → next ≢ 0 →
+    IsAt (opening_of b) m.number next (known m)
+is_at_link b g key before next h m first on some =
     record {
-      reading = on.search.call.reading;
+      reading = (on.search first).call.reading;
       there = ⊎_elim (λ (z : next ≡ 0). absurd (some z))
           (λ (z : (j : ℕ) × IsReachedRow (opening_of b) m.number g j next (known m)). inr z.1.1)
           on.ahead;
     }
 
-module _ (b : Board) (g key before next met : ℕ) (h m n : Hand)
+module _ (b : Board) (g key before next met : ℕ) (h m n : Hand) (first : CanSearch b g h)
     (on : IsOn b g key before next h m) (some : next ≢ 0) (l : Makes b m (LoadKey next met) n) where
   reached_row : (j : ℕ) × IsReachedRow (opening_of b) m.number g j next (known m)
   reached_row =
@@ -208,17 +215,17 @@ module _ (b : Board) (g key before next met : ℕ) (h m n : Hand)
       (λ (z : (j : ℕ) × IsReachedRow (opening_of b) m.number g j next (known m)). z) on.ahead
 
   is_there : IsAt (opening_of b) m.number next (known m)
-  is_there = is_at_link b g key before next h m on some
+  is_there = is_at_link b g key before next h m first on some
 
   same : role (opening_of b) next (known n) ≡ role (opening_of b) next (known m)
-  same = same_role b m n (LoadKey next met) on.search.call.of l tt next is_there
+  same = same_role b m n (LoadKey next met) on.can.of l tt next is_there
 
   key_is : reached_row.0 ≡ met
   key_is =
       let told : role_key (role (opening_of b) next (known n)) ≡ Some met =
       ap (λ (z : Execution). role_key (role (opening_of b) next z))
-      (known_is b m n (LoadKey next met) on.search.call.of l)
-      ∙ (valid_after b m n (LoadKey next met) on.search.call.of l).0.says
+      (known_is b m n (LoadKey next met) on.can.of l)
+      ∙ (valid_after b m n (LoadKey next met) on.can.of l).0.says
       in
       some_is (sym (ap role_key (same ∙ reached_row.1.0)) ∙ told)
 
@@ -232,11 +239,11 @@ module _ (b : Board) (g key before next met : ℕ) (h m n : Hand)
   is_reached : IsReachedRow (opening_of b) n.number g met next (known n)
   is_reached = (
     is_still_of,
-    still_reached b m n (LoadKey next met) on.search.call.of l tt next reached_row.1.1,
+    still_reached b m n (LoadKey next met) on.can.of l tt next reached_row.1.1,
   )
 
   is_at : IsAt (opening_of b) n.number next (known n)
-  is_at = still_at b m n (LoadKey next met) on.search.call.of l tt next is_there
+  is_at = still_at b m n (LoadKey next met) on.can.of l tt next is_there
 
   -- the row of the key
   pub found_row : met ≡ key → IsReachedRow (opening_of b) n.number g key next (known n)
@@ -250,19 +257,19 @@ module _ (b : Board) (g key before next met : ℕ) (h m n : Hand)
         moment = known m;
         loaded = on.loaded;
         within = is_within h n (known m) on.begun
-            (goes_on b m n (LoadKey next met) on.search.call.of l);
+            (goes_on b m n (LoadKey next met) on.can.of l);
         absent = empty_from b g key before next h m on key (omega arith) (inr (met, is_of, lt));
         leads = on.leads;
         empty = record {
-          row = λ first there i le less.
-              let same : first ≡ met = buffer_key (sym there ∙ is_still_of) in
+          row = λ key2 there i le less.
+              let same : key2 ≡ met = buffer_key (sym there ∙ is_still_of) in
               empty_from b g key before next h m on i le (inr (met, is_of, omega arith));
           end = λ none. absurd (some none);
         };
         ahead = λ _. is_reached.1;
         belonged = (on.behind, inr (met, is_of, lt));
         belongs = (
-          before_after b g key before m n (LoadKey next met) tt l on.search on.behind,
+          before_on b g m n (LoadKey next met) tt l on.can key before on.behind,
           inr (met, is_still_of, lt),
         );
       }
@@ -274,15 +281,15 @@ module _ (b : Board) (g key before next met : ℕ) (h m n : Hand)
   pub goes_behind : (next2 : ℕ) (k : Hand) → met < key → FollowsLink b n g next next2 k →
       IsOn b g key next next2 h k
   goes_behind next2 k lt follows =
-      arrives b g key next next2 h n k
-      (search_on b g m n (LoadKey next met) tt l on.search)
+      arrives b g key next next2 h n k (follow_on b g m n (LoadKey next met) tt l on.can)
+      (λ _. search_on b g m n (LoadKey next met) tt l (on.search first))
       (l.number ∙ on.number)
       (continues_trans (known h) (known m) (known n) (begun_since h (known m) on.begun)
-      (goes_on b m n (LoadKey next met) on.search.call.of l))
-      (log_on b g m n (LoadKey next met) tt l h on.search.call.of on.log)
+      (goes_on b m n (LoadKey next met) on.can.of l))
+      (log_on b g m n (LoadKey next met) tt l h on.can.of on.log)
       (walks_on b g m n (LoadKey next met) tt l h on.walks)
       (λ d q. begun_on h (known n) (known k)
-      (begun_on h (known m) (known n) on.begun (goes_on b m n (LoadKey next met) on.search.call.of l))
+      (begun_on h (known m) (known n) on.begun (goes_on b m n (LoadKey next met) on.can.of l))
       (goes_on b n k d l.of q))
       (inr (met, is_still_of, lt)) follows
 
@@ -290,25 +297,25 @@ module _ (b : Board) (g key before next met : ℕ) (h m n : Hand)
 
 -- the keys that are met rise
 pub left_falls : (b : Board) (g key before next met next2 : ℕ) (h m n k : Hand) →
-    IsOn b g key before next h m → next ≢ 0 → Makes b m (LoadKey next met) n → met < key →
+    CanSearch b g h → IsOn b g key before next h m → next ≢ 0 → Makes b m (LoadKey next met) n → met < key →
     FollowsLink b n g next next2 k →
     rise_left (opening_of b) key next2 (known k) < rise_left (opening_of b) key next (known m)
-left_falls b g key before next met next2 h m n k on some l lt follows =
+left_falls b g key before next met next2 h m n k first on some l lt follows =
     let o = opening_of b in
-    let on_k = goes_behind b g key before next met h m n on some l next2 k lt follows in
+    let on_k = goes_behind b g key before next met h m n first on some l next2 k lt follows in
     let here : role o next (known k) ≡ InBuffer g met =
     same_role b n k (load_of_link g next next2)
-    (search_on b g m n (LoadKey next met) tt l on.search).call.of follows
+    (follow_on b g m n (LoadKey next met) tt l on.can).of follows
     (no_crossing g (load_of_link g next next2) (link_is_walk g next next2)) next
-    (is_at b g key before next met h m n on some l)
-    ∙ is_still_of b g key before next met h m n on some l in
+    (is_at b g key before next met h m n first on some l)
+    ∙ is_still_of b g key before next met h m n first on some l in
     let old = left_some o key next met g (known m) some
-    (is_of b g key before next met h m n on some l) in
+    (is_of b g key before next met h m n first on some l) in
     ⊎_elim
     (λ (z : next2 ≡ 0).
     let new = left_none o key next2 (known k) z in omega arith)
     (λ (z : (j : ℕ) × IsReachedRow o k.number g j next2 (known k)).
-    let more : met < z.0 = rises o (known k) on_k.valid g next next2 met z.0 on_k.search.walkable
+    let more : met < z.0 = rises o (known k) on_k.valid g next next2 met z.0 on_k.can.walkable
     here (ap (word o (known k)) (sym (link_of_row g next some)) ∙ on_k.leads) z.1.0 in
     let new = left_some o key next2 z.0 g (known k)
     (row_some o (known k) g next2 z.0 on_k.valid z.1.0) z.1.0 in

@@ -1,4 +1,5 @@
 pub mod Walks
 pub mod Searching
+pub mod Following
 pub mod Inserting
 pub mod Visits

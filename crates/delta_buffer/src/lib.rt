@@ -17,4 +17,6 @@ pub use answers::Found;
 pub use counting::count;
 pub use finding::{find, first_from};
 pub use inserting::insert;
-pub use laws::keys_without_a_value_belong;
+pub use laws::{
+    buffers_stay_walkable_for_keepers, keepers_can_follow, keys_without_a_value_belong,
+};

@@ -1,7 +1,7 @@
 //! One step of a walk: the link behind a place is loaded.
 ghost use Rattle.index_machine.specs.RecordConditions.{IsLinkInto};
 ghost use Rattle.index_rule.specs.Hands.{known, opening_of};
-ghost use Rattle.delta_buffer.specs.Searching.{CanSearch};
+ghost use Rattle.delta_buffer.specs.Following.{CanFollow};
 ghost use Rattle.delta_buffer.specs.Walks.{FollowsLink};
 
 use index_rule::{Board, Hand};
@@ -10,7 +10,7 @@ use index_rule::{Board, Hand};
 /// row.
 #[inline]
 pub(crate) fn follow(board: &Board, hand: &mut Hand, group: u32, before: u32) -> u32
-    requires search { CanSearch board.now group hand.old }
+    requires can { CanFollow board.now group hand.old }
     requires link { IsLinkInto (opening_of board.now) group before (known hand.old) }
     ensures { FollowsLink board.now hand.old group before result hand.new }
 {

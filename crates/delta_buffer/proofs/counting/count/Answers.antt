@@ -18,7 +18,7 @@ overflow_add-count c =
 pub follow-next-requires-in-loop-next : goal.follow-next-requires-in-loop-next
 follow-next-requires-in-loop-next c =
     record {
-      search = c.loop-next.invariant.on.search;
+      can = c.loop-next.invariant.on.can;
       link = leads_into c.args.board.now c.args.group c.loop-next.next c.loop-next.count
           c.args.hand.now c.loop-next.hand c.loop-next.invariant c.loop-next-test.true;
     }

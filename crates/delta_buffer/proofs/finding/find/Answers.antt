@@ -1,5 +1,6 @@
 use Rattle.std.proofs.Common.{◌≢◌, ℕ, inl, ◌∙◌, arith}
 use Rattle.index_machine.specs.declared.events.Action.TheVariants.{LoadKey}
+use Rattle.delta_buffer.proofs.Following.{follow_on, searches_follow}
 use Rattle.delta_buffer.proofs.Stepping.{found_end, found_gap, found_row, goes_behind}
 use Rattle.delta_buffer.proofs.Stepping.{is_at_link, left_falls, links_on, log_on, search_on, sets_out}
 use Rattle.delta_buffer.proofs.Stepping.{walks_on}
@@ -8,12 +9,14 @@ use Rattle.delta_buffer.proofs.finding.find.Goals as goal
 pub loop-next-init : goal.loop-next-init
 loop-next-init c =
     sets_out c.args.board.now c.args.group c.args.key c.follow-next.result c.args.hand.now
-    c.follow-next.new.hand c.requires c.follow-next.ensures
+    c.follow-next.new.hand
+    (searches_follow c.args.board.now c.args.group c.args.hand.now c.requires)
+    c.follow-next.ensures
 
 pub load_key-met-requires-clause-may : goal.load_key-met-requires-clause-may
 load_key-met-requires-clause-may c =
     inl (is_at_link c.args.board.now c.args.group c.args.key c.loop-next.before c.loop-next.next
-    c.args.hand.now c.loop-next.hand c.loop-next.invariant c.loop-next-test.true)
+    c.args.hand.now c.loop-next.hand c.requires c.loop-next.invariant c.loop-next-test.true)
 
 pub returns-then-met-key : goal.returns-then-met-key
 returns-then-met-key c =
@@ -26,11 +29,11 @@ returns-then-met-key c =
     let l = c.load_key-met.ensures in
     record {
       number = l.number ∙ on.number;
-      search = search_on b c.args.group m n load tt l on.search;
+      search = search_on b c.args.group m n load tt l (on.search c.requires);
       steps = walks_on b c.args.group m n load tt l h on.walks;
       finds = found_row b c.args.group c.args.key c.loop-next.before c.loop-next.next
-          c.load_key-met.result h m n on c.loop-next-test.true l c.if-met-key.true;
-      log = log_on b c.args.group m n load tt l h on.search.call.of on.log;
+          c.load_key-met.result h m n c.requires on c.loop-next-test.true l c.if-met-key.true;
+      log = log_on b c.args.group m n load tt l h on.can.of on.log;
     }
 
 pub returns-then-met-key-2 : goal.returns-then-met-key-2
@@ -44,11 +47,11 @@ returns-then-met-key-2 c =
     let l = c.load_key-met.ensures in
     record {
       number = l.number ∙ on.number;
-      search = search_on b c.args.group m n load tt l on.search;
+      search = search_on b c.args.group m n load tt l (on.search c.requires);
       steps = walks_on b c.args.group m n load tt l h on.walks;
       finds = found_gap b c.args.group c.args.key c.loop-next.before c.loop-next.next
-          c.load_key-met.result h m n on c.loop-next-test.true l c.if-met-key-2.true;
-      log = log_on b c.args.group m n load tt l h on.search.call.of on.log;
+          c.load_key-met.result h m n c.requires on c.loop-next-test.true l c.if-met-key-2.true;
+      log = log_on b c.args.group m n load tt l h on.can.of on.log;
     }
 
 pub follow-next-requires-in-loop-next : goal.follow-next-requires-in-loop-next
@@ -59,10 +62,9 @@ follow-next-requires-in-loop-next c =
     let on = c.loop-next.invariant in
     let l = c.load_key-met.ensures in
     record {
-      search = search_on b c.args.group m n (LoadKey c.loop-next.next c.load_key-met.result) tt l
-          on.search;
+      can = follow_on b c.args.group m n (LoadKey c.loop-next.next c.load_key-met.result) tt l on.can;
       link = links_on b c.args.group c.args.key c.loop-next.before c.loop-next.next
-          c.load_key-met.result c.args.hand.now m n on c.loop-next-test.true l;
+          c.load_key-met.result c.args.hand.now m n c.requires on c.loop-next-test.true l;
     }
 
 pub loop-next-smaller : goal.loop-next-smaller
@@ -71,7 +73,7 @@ loop-next-smaller c =
     let key : ℕ = c.args.key in
     let differ : met ≢ key = c.if-met-key.false in
     left_falls c.args.board.now c.args.group key c.loop-next.before c.loop-next.next met _
-    c.args.hand.now c.loop-next.hand c.load_key-met.new.hand _ c.loop-next.invariant
+    c.args.hand.now c.loop-next.hand c.load_key-met.new.hand _ c.requires c.loop-next.invariant
     c.loop-next-test.true c.load_key-met.ensures (omega arith)
     c.follow-next-in-loop-next.ensures
 
@@ -81,7 +83,7 @@ loop-next-preserved c =
     let key : ℕ = c.args.key in
     let differ : met ≢ key = c.if-met-key.false in
     goes_behind c.args.board.now c.args.group key c.loop-next.before c.loop-next.next met
-    c.args.hand.now c.loop-next.hand c.load_key-met.new.hand c.loop-next.invariant
+    c.args.hand.now c.loop-next.hand c.load_key-met.new.hand c.requires c.loop-next.invariant
     c.loop-next-test.true c.load_key-met.ensures _ _ (omega arith)
     c.follow-next-in-loop-next.ensures
 
@@ -90,7 +92,7 @@ returns c =
     let on = c.loop-next.invariant in
     record {
       number = on.number;
-      search = on.search;
+      search = on.search c.requires;
       steps = on.walks;
       finds = found_end c.args.board.now c.args.group c.args.key c.loop-next.before
           c.loop-next.next c.args.hand.now c.loop-next.hand on c.loop-next-test.false;

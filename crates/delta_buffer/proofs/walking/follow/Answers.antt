@@ -1,18 +1,14 @@
-use Rattle.std.proofs.Common.{arith}
-use Rattle.index_machine.specs.declared.events.Action.TheVariants.{LoadHead, LoadLink}
-use Rattle.index_rule.specs.Hands.{opening_of}
-use Rattle.index_rule.proofs.Stepping.{valid_after}
-use Rattle.delta_buffer.proofs.Links.{link_below}
+use Rattle.std.proofs.Common.{inl, sym, refl, subst, arith}
+use Rattle.index_machine.specs.declared.events.Action.{Action}
+use Rattle.index_rule.specs.Hands.{Makes}
+use Rattle.delta_buffer.proofs.Following.{fits}
+use Rattle.delta_buffer.proofs.Links.{link_load}
 use Rattle.delta_buffer.proofs.walking.follow.Goals as goal
 
 pub overflow_cast-result : goal.overflow_cast-result
 overflow_cast-result c =
-    let b = c.args.board.now in
-    let h = c.args.hand.now in
-    let k = c.load_head.new.hand in
-    let valid = valid_after b h k (LoadHead c.args.group c.load_head.result) c.requires.search.call.of c.load_head.ensures in
-    let below = link_below (opening_of b) _ c.args.group c.load_head.result valid.1
-    (valid.0.says c.requires.search.call.reading.caller) in
+    let below = fits c.args.board.now c.args.group 0 c.load_head.result c.args.hand.now
+    c.load_head.new.hand c.requires.can (inl refl) c.load_head.ensures in
     omega arith
 
 pub overflow_cast-result-else-before-eq0 : goal.overflow_cast-result-else-before-eq0
@@ -20,7 +16,9 @@ overflow_cast-result-else-before-eq0 c =
     let b = c.args.board.now in
     let h = c.args.hand.now in
     let k = c.load_link.new.hand in
-    let valid = valid_after b h k (LoadLink c.args.group c.args.before c.load_link.result) c.requires.search.call.of c.load_link.ensures in
-    let below = link_below (opening_of b) _ c.args.group c.load_link.result valid.1
-    (valid.0.says c.requires.search.call.reading.caller) in
+    let follows = subst (λ (d : Action). Makes b h d k)
+    (sym (link_load c.args.group c.args.before c.load_link.result c.if-before-eq0.false))
+    c.load_link.ensures in
+    let below = fits b c.args.group c.args.before c.load_link.result h k c.requires.can
+    c.requires.link follows in
     omega arith
