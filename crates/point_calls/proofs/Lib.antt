@@ -8,3 +8,4 @@ pub mod Refusals
 pub mod RowPutting
 pub mod NewRows
 pub mod Exchanging
+pub mod CallExchanges

@@ -35,7 +35,7 @@ use Rattle.index_machine.proofs.Holders.{TakesLock}
 use Rattle.machine_readers.proofs.ReadSections.{saw_open_on}
 use Rattle.index_rule.specs.declared.board.Board.{Board}
 use Rattle.index_rule.specs.declared.hand.Hand.{Hand}
-use Rattle.index_rule.specs.Hands.{IsHandOf, Makes, known, opening_of}
+use Rattle.index_rule.specs.Hands.{IsHandOf, Makes, MakesAll, known, opening_of}
 use Rattle.index_rule.proofs.BufferStepping.{still_row}
 use Rattle.index_rule.proofs.Calls.{HasBegun, begun_on, goes_on, is_within}
 use Rattle.index_rule.proofs.RecordReading.{KeepsLog}
@@ -45,9 +45,9 @@ use Rattle.delta_buffer.specs.Walks.{MakesIn, load_of_link}
 use Rattle.delta_buffer.proofs.CallSteps.{made_in_call}
 use Rattle.delta_buffer.proofs.Stepping.{before_after, search_after}
 use Rattle.point_calls.specs.declared.found.Gap.{Gap}
-use Rattle.point_calls.specs.PointCalls.{OpensEmpty, StoresElsewhere}
+use Rattle.point_calls.specs.PointCalls.{IsOneSection, OpensEmpty, StoresElsewhere}
 use Rattle.point_calls.specs.Putting.{HasFoundGap, IsMissing, MayLinkIn}
-use Rattle.point_calls.proofs.Knowing.{built_at, call_since, call_step, valid_at, within_on}
+use Rattle.point_calls.proofs.Knowing.{built_at, call_since, call_step, section_on, valid_at, within_on}
 use Rattle.point_calls.proofs.LeftWords.{left_on, row_elsewhere}
 use Rattle.point_calls.proofs.Missing.{gap_absent, group_stays, no_array}
 
@@ -228,6 +228,25 @@ may_filled b start h k gap place value held fills may =
     all.2
     (may_stored b start one all.0 gap place part.Value value (apart part.Value) all.1.2
     (may_stored b start h one gap place part.Key gap.key (apart part.Key) first may))
+
+-- ---- its link ----
+
+-- the hand stored the link of its filled row, and tried to exchange the one before it
+module _ (b : Board) (start k : Hand) (gap : Gap) (row : ℕ) (d : Action) (e : Hand)
+    (may : MayLinkIn b start k gap) (held : Holds (opening_of b) k.number row (known k))
+    (steps : MakesAll b k (d ∷ StorePrivate row part.Link gap.next ∷ []) e) where
+  -- before the exchange
+  pub may_before : MayLinkIn b start steps.0 gap
+  may_before =
+      let store = StorePrivate row part.Link gap.next in
+      may_stored b start k steps.0 gap row part.Link gap.next
+      (own_elsewhere b start k gap row part.Link held may)
+      (subst (λ (z : Hand). Makes b z store steps.0) steps.1.1 steps.1.2) may
+
+  -- and behind it
+  pub section_behind : IsNoCrossing d → IsOneSection start e
+  section_behind none =
+      section_on b start steps.0 e d none may_before.search.call.of steps.2 may_before.call.section
 
 -- the change that the link added is one of the call
 pub adds_there : (b : Board) (start h k : Hand) (gap : Gap) (change same : Change)

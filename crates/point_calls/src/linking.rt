@@ -7,6 +7,7 @@ ghost use Rattle.point_calls.specs.Putting.{HasFoundGap, IsFullOnly, MayLinkIn, 
 ghost use Rattle.point_calls.specs.Putting.{GetsNoRow, KeepsSpare};
 
 use crate::found::Gap;
+use crate::refusing::raced;
 use delta_buffer::insert;
 use index_rule::{Board, Hand, Linked, PrivateRow, Tried, Why};
 use row_arena::{Taken, fill, take};
@@ -15,6 +16,8 @@ use word_layout::Phase;
 
 /// Links a row for the key into the gap, tried once. It takes effect at the exchange of the
 /// link.
+///
+/// A frozen group is met before a row is taken, so `Frozen` stands before `Full`.
 #[inline]
 pub(crate) fn link_new(
     board: &Board,
@@ -36,28 +39,22 @@ pub(crate) fn link_new(
     ensures full { IsFullOnly spare.old result }
     ensures kept { KeepsSpare spare.old result spare.new }
 {
-    let word = board.load_phase(hand, gap.group);
-    // Frozen is met before a row is taken, so it stands before Full.
+    let group = gap.group;
+    let word = board.load_phase(hand, group);
     if word != Phase::Open.word() {
-        return Tried::Again(Why::Frozen {
-            group: gap.group,
-            word,
-        });
+        return Tried::Again(Why::Frozen { group, word });
     }
     let mut row = match own_row(board, hand, start, spare, gap) {
         Ok(row) => row,
         Err(refusal) => return refusal,
     };
     fill(board, hand, &mut row, gap.key, value);
-    match insert(board, hand, gap.group, gap.before, gap.next, row) {
+    match insert(board, hand, group, gap.before, gap.next, row) {
         Linked::Done => Tried::Done(None),
         Linked::Raced { row, found } => {
             keep(spare, row);
-            Tried::Again(Why::Raced {
-                place: board.link_address(gap.group, gap.before),
-                expected: gap.next as u64,
-                found,
-            })
+            let link = board.link_address(group, gap.before);
+            raced(link, gap.next as u64, found)
         }
     }
 }

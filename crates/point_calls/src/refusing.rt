@@ -1,12 +1,26 @@
-//! A change of a record was refused.
+//! What a call answers that came to no end.
 ghost use Rattle.std.specs.Prelude.{◌≡◌, Some};
+ghost use Rattle.index_rule.specs.declared.tried.Tried.TheVariants.{Again};
+ghost use Rattle.index_rule.specs.declared.tried.Why.TheVariants.{Raced};
 ghost use Rattle.point_calls.specs.Changing.{IsRefusal, refusal_of};
 
 use index_rule::{Tried, Why};
 use record_cell::Wrote;
 use word_layout::state_word;
 
-/// The answer of a call whose change was refused so.
+/// The answer of a call that lost the exchange of the word at this address.
+#[inline]
+pub(crate) fn raced(place: u32, expected: u64, found: u64) -> Tried<Option<u64>>
+    ensures { result ≡ Again (Raced place expected found) }
+{
+    Tried::Again(Why::Raced {
+        place,
+        expected,
+        found,
+    })
+}
+
+/// The answer of a call whose change of a record was refused so.
 #[inline]
 pub(crate) fn refused(wrote: Wrote) -> Tried<Option<u64>>
     requires { IsRefusal wrote }
@@ -18,11 +32,7 @@ pub(crate) fn refused(wrote: Wrote) -> Tried<Option<u64>>
             place,
             expected,
             found,
-        } => Tried::Again(Why::Raced {
-            place: state_word(place),
-            expected,
-            found,
-        }),
+        } => raced(state_word(place), expected, found),
         Wrote::Worn { place, word } => Tried::Worn { place, word },
         _ => unreachable!(),
     }

@@ -8,7 +8,7 @@ use Rattle.index_rule.specs.OwnRows.{place_of_private}
 use Rattle.point_calls.proofs.Knowing.{call_since}
 use Rattle.point_calls.proofs.LeftWords.{head_elsewhere, left_on, made_at, made_behind}
 use Rattle.point_calls.proofs.NewRows.{is_missing, made_there, may_on}
-use Rattle.point_calls.proofs.Exchanging.{take_makes_one}
+use Rattle.point_calls.proofs.CallExchanges.{take_makes_one}
 use Rattle.point_calls.proofs.linking.own_row.Goals as goal
 
 pub returns-in-Row-clause-may : goal.returns-in-Row-clause-may

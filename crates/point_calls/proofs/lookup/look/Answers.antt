@@ -1,5 +1,5 @@
 use Rattle.std.proofs.Common.{◌∙◌, refl}
-use Rattle.point_calls.proofs.Exchanging.{look_makes_none}
+use Rattle.point_calls.proofs.CallExchanges.{look_makes_none}
 use Rattle.point_calls.proofs.Knowing.{call_with_look, looked_up, section_with_look, spare_with_look}
 use Rattle.point_calls.proofs.lookup.look.Goals as goal
 

@@ -9,7 +9,8 @@ use Rattle.point_calls.proofs.RowPutting.{group_seen, in_revived, is_in, may_rev
 use Rattle.point_calls.proofs.RowPutting.{row_seen, sees_phase, was_alive}
 use Rattle.point_calls.proofs.Refusals.{in_refused, is_refusal, put_tells, revival_refused}
 use Rattle.point_calls.specs.Exchanges.{one_lock}
-use Rattle.point_calls.proofs.Exchanging.{few_behind, none_by, revival_makes_one}
+use Rattle.point_calls.proofs.Exchanging.{few_behind, none_by}
+use Rattle.point_calls.proofs.CallExchanges.{revival_makes_one}
 use Rattle.point_calls.proofs.overwriting.bring_back.Goals as goal
 
 pub load_phase-requires-clause-may : goal.load_phase-requires-clause-may
@@ -17,8 +18,8 @@ load_phase-requires-clause-may c =
     sees_phase c.args.board.now c.args.start.now.value c.args.hand.now c.args.row.group c.args.row.key
     c.requires.found.found.group_of
 
-pub revive-requires-clause-ready : goal.revive-requires-clause-ready
-revive-requires-clause-ready c =
+pub revive-requires : goal.revive-requires
+revive-requires c =
     let b = c.args.board.now in
     let h = c.args.start.now.value in
     let before = c.args.hand.now in
@@ -26,37 +27,18 @@ revive-requires-clause-ready c =
     let g : ℕ = c.args.row.group in
     let key : ℕ = c.args.row.key in
     let place : ℕ = c.args.row.place in
-    let stone = c.requires.found in
-    let at = stone.found.group_of in
+    let found = c.requires.found.found in
     let m = c.load_phase.ensures in
-    let seen = group_seen b h before n g key c.load_phase.result at m in
-    let row = row_seen b h before n g key c.load_phase.result at m place stone.found.row in
-    let can = seen.search in
-    let none = seen.call.so_far.no_entry in
-    let i = is_in b h n g key seen in
-    ready_row b g key place n can row
+    let word : ℕ = c.load_phase.result in
+    let at = found.group_of in
+    record {
+      ready = ready_row b g key place n (group_seen b h before n g key word at m).search
+          (row_seen b h before n g key word at m place found.row);
+      may = may_revive b h before n g key word at m place c.requires.empty found.row;
+    }
 
-pub revive-requires-clause-may : goal.revive-requires-clause-may
-revive-requires-clause-may c =
-    let b = c.args.board.now in
-    let h = c.args.start.now.value in
-    let before = c.args.hand.now in
-    let n = c.load_phase.new.hand in
-    let g : ℕ = c.args.row.group in
-    let key : ℕ = c.args.row.key in
-    let place : ℕ = c.args.row.place in
-    let stone = c.requires.found in
-    let at = stone.found.group_of in
-    let m = c.load_phase.ensures in
-    let seen = group_seen b h before n g key c.load_phase.result at m in
-    let row = row_seen b h before n g key c.load_phase.result at m place stone.found.row in
-    let can = seen.search in
-    let none = seen.call.so_far.no_entry in
-    let i = is_in b h n g key seen in
-    may_revive b h before n g key c.load_phase.result at m place c.requires.empty stone.found.row
-
-pub returns-in-Done-clause-section : goal.returns-in-Done-clause-section
-returns-in-Done-clause-section c =
+pub returns-in-Done : goal.returns-in-Done
+returns-in-Done c =
     let b = c.args.board.now in
     let h = c.args.start.now.value in
     let before = c.args.hand.now in
@@ -70,13 +52,25 @@ returns-in-Done-clause-section c =
     let m = c.load_phase.ensures in
     let seen = group_seen b h before n g key c.load_phase.result at m in
     let row = row_seen b h before n g key c.load_phase.result at m place stone.found.row in
-    let can = seen.search in
-    let none = seen.call.so_far.no_entry in
     let i = is_in b h n g key seen in
-    (in_revived b h n g key place seen k c.args.value c.in-Done.old c.in-Done.ensures.steps).section
+    let done = c.in-Done.ensures in
+    let ik = in_revived b h n g key place seen k c.args.value c.in-Done.old done.steps in
+    record {
+      call = search rules;
+      number = ik.number;
+      section = ik.section;
+      exchanges = few_behind one_lock before n k
+          (none_by b before (LoadPhase g c.load_phase.result) n at.search.call.of m refl refl refl)
+          (revival_makes_one b n place c.args.value c.revive.result k m.of c.revive.ensures.steps);
+      rows = ik.rows;
+      tells = adds_whole b h n k (put_at b n place c.args.value) (Put h.number key c.args.value)
+          c.in-Done.old i seen.call.so_far.no_entry
+          (put_is b h n g key place i seen.search row c.args.value) done.tells;
+      not_full = search rules;
+    }
 
-pub returns-in-Done-clause-rows : goal.returns-in-Done-clause-rows
-returns-in-Done-clause-rows c =
+pub returns-in-Live : goal.returns-in-Live
+returns-in-Live c =
     let b = c.args.board.now in
     let h = c.args.start.now.value in
     let before = c.args.hand.now in
@@ -90,95 +84,24 @@ returns-in-Done-clause-rows c =
     let m = c.load_phase.ensures in
     let seen = group_seen b h before n g key c.load_phase.result at m in
     let row = row_seen b h before n g key c.load_phase.result at m place stone.found.row in
-    let can = seen.search in
-    let none = seen.call.so_far.no_entry in
     let i = is_in b h n g key seen in
-    (in_revived b h n g key place seen k c.args.value c.in-Done.old c.in-Done.ensures.steps).rows
-
-pub returns-in-Done-clause-tells : goal.returns-in-Done-clause-tells
-returns-in-Done-clause-tells c =
-    let b = c.args.board.now in
-    let h = c.args.start.now.value in
-    let before = c.args.hand.now in
-    let n = c.load_phase.new.hand in
-    let k = c.revive.new.hand in
-    let g : ℕ = c.args.row.group in
-    let key : ℕ = c.args.row.key in
-    let place : ℕ = c.args.row.place in
-    let stone = c.requires.found in
-    let at = stone.found.group_of in
-    let m = c.load_phase.ensures in
-    let seen = group_seen b h before n g key c.load_phase.result at m in
-    let row = row_seen b h before n g key c.load_phase.result at m place stone.found.row in
-    let can = seen.search in
-    let none = seen.call.so_far.no_entry in
-    let i = is_in b h n g key seen in
-    adds_whole b h n k (put_at b n place c.args.value) (Put h.number key c.args.value) c.in-Done.old i none
-    (put_is b h n g key place i can row c.args.value) c.in-Done.ensures.tells
-
-pub returns-in-Live-clause-section : goal.returns-in-Live-clause-section
-returns-in-Live-clause-section c =
-    let b = c.args.board.now in
-    let h = c.args.start.now.value in
-    let before = c.args.hand.now in
-    let n = c.load_phase.new.hand in
-    let k = c.revive.new.hand in
-    let g : ℕ = c.args.row.group in
-    let key : ℕ = c.args.row.key in
-    let place : ℕ = c.args.row.place in
-    let stone = c.requires.found in
-    let at = stone.found.group_of in
-    let m = c.load_phase.ensures in
-    let seen = group_seen b h before n g key c.load_phase.result at m in
-    let row = row_seen b h before n g key c.load_phase.result at m place stone.found.row in
-    let can = seen.search in
-    let none = seen.call.so_far.no_entry in
-    let i = is_in b h n g key seen in
-    (in_step b h n k (LoadState place c.in-Live.word) tt tt c.in-Live.ensures.steps.0 i).section
-
-pub returns-in-Live-clause-rows : goal.returns-in-Live-clause-rows
-returns-in-Live-clause-rows c =
-    let b = c.args.board.now in
-    let h = c.args.start.now.value in
-    let before = c.args.hand.now in
-    let n = c.load_phase.new.hand in
-    let k = c.revive.new.hand in
-    let g : ℕ = c.args.row.group in
-    let key : ℕ = c.args.row.key in
-    let place : ℕ = c.args.row.place in
-    let stone = c.requires.found in
-    let at = stone.found.group_of in
-    let m = c.load_phase.ensures in
-    let seen = group_seen b h before n g key c.load_phase.result at m in
-    let row = row_seen b h before n g key c.load_phase.result at m place stone.found.row in
-    let can = seen.search in
-    let none = seen.call.so_far.no_entry in
-    let i = is_in b h n g key seen in
-    (in_step b h n k (LoadState place c.in-Live.word) tt tt c.in-Live.ensures.steps.0 i).rows
-
-pub returns-in-Live-clause-tells : goal.returns-in-Live-clause-tells
-returns-in-Live-clause-tells c =
-    let b = c.args.board.now in
-    let h = c.args.start.now.value in
-    let before = c.args.hand.now in
-    let n = c.load_phase.new.hand in
-    let k = c.revive.new.hand in
-    let g : ℕ = c.args.row.group in
-    let key : ℕ = c.args.row.key in
-    let place : ℕ = c.args.row.place in
-    let stone = c.requires.found in
-    let at = stone.found.group_of in
-    let m = c.load_phase.ensures in
-    let seen = group_seen b h before n g key c.load_phase.result at m in
-    let row = row_seen b h before n g key c.load_phase.result at m place stone.found.row in
-    let can = seen.search in
-    let none = seen.call.so_far.no_entry in
-    let i = is_in b h n g key seen in
-    let s = c.in-Live.ensures.steps in (
-      c.in-Live.ensures.tells.0 ∙ none,
-      was_alive b h n g key place seen before k c.args.first c.in-Live.word s.0 stone
-          c.load_phase.result m row s.1,
-    )
+    let s = c.in-Live.ensures.steps in
+    let ik = in_step b h n k (LoadState place c.in-Live.word) tt tt s.0 i in
+    record {
+      call = search rules;
+      number = ik.number;
+      section = ik.section;
+      exchanges = few_behind one_lock before n k
+          (none_by b before (LoadPhase g c.load_phase.result) n at.search.call.of m refl refl refl)
+          (revival_makes_one b n place c.args.value c.revive.result k m.of c.revive.ensures.steps);
+      rows = ik.rows;
+      tells = (
+        c.in-Live.ensures.tells.0 ∙ seen.call.so_far.no_entry,
+        was_alive b h n g key place seen before k c.args.first c.in-Live.word s.0 stone
+            c.load_phase.result m row s.1,
+      );
+      not_full = search rules;
+    }
 
 pub refused-requires : goal.refused-requires
 refused-requires c =
@@ -232,27 +155,3 @@ returns-in_default c =
       tells = tells;
       not_full = search rules;
     }
-
-pub returns-in-Done-clause-exchanges : goal.returns-in-Done-clause-exchanges
-returns-in-Done-clause-exchanges c =
-    let b = c.args.board.now in
-    let before = c.args.hand.now in
-    let n = c.load_phase.new.hand in
-    let m = c.load_phase.ensures in
-    few_behind one_lock before n c.revive.new.hand
-    (none_by b before (LoadPhase c.args.row.group c.load_phase.result) n
-    c.requires.found.found.group_of.search.call.of m refl refl refl)
-    (revival_makes_one b n c.args.row.place c.args.value c.revive.result c.revive.new.hand m.of
-    c.revive.ensures.steps)
-
-pub returns-in-Live-clause-exchanges : goal.returns-in-Live-clause-exchanges
-returns-in-Live-clause-exchanges c =
-    let b = c.args.board.now in
-    let before = c.args.hand.now in
-    let n = c.load_phase.new.hand in
-    let m = c.load_phase.ensures in
-    few_behind one_lock before n c.revive.new.hand
-    (none_by b before (LoadPhase c.args.row.group c.load_phase.result) n
-    c.requires.found.found.group_of.search.call.of m refl refl refl)
-    (revival_makes_one b n c.args.row.place c.args.value c.revive.result c.revive.new.hand m.of
-    c.revive.ensures.steps)

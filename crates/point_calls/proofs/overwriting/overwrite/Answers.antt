@@ -7,43 +7,26 @@ use Rattle.point_calls.proofs.RowReading.{ready_row}
 use Rattle.point_calls.proofs.RowPutting.{found_stone, is_in}
 use Rattle.point_calls.proofs.Refusals.{in_refused, is_refusal, put_tells, write_refused}
 use Rattle.point_calls.specs.Exchanges.{one_lock}
-use Rattle.point_calls.proofs.Exchanging.{few_behind, gone_makes_none, write_makes_one}
+use Rattle.point_calls.proofs.Exchanging.{few_behind}
+use Rattle.point_calls.proofs.CallExchanges.{gone_makes_none, write_makes_one}
 use Rattle.point_calls.proofs.overwriting.overwrite.Goals as goal
 
 pub update-requires : goal.update-requires
 update-requires c =
-    let b = c.args.board.now in
-    let h = c.args.start.now.value in
-    let n = c.args.hand.now in
-    let g : ℕ = c.args.row.group in
-    let key : ℕ = c.args.row.key in
-    let place : ℕ = c.args.row.place in
     let found = c.requires.found in
-    let can = found.group_of.search in
-    let row = found.row in
-    let none = found.group_of.call.so_far.no_entry in
-    let i = is_in b h n g key found.group_of in
-    ready_row b g key place n can row
+    ready_row c.args.board.now c.args.row.group c.args.row.key c.args.row.place c.args.hand.now
+    found.group_of.search found.row
 
 pub bring_back-requires-clause-found : goal.bring_back-requires-clause-found
 bring_back-requires-clause-found c =
-    let b = c.args.board.now in
-    let h = c.args.start.now.value in
-    let n = c.args.hand.now in
-    let k = c.update.new.hand in
-    let g : ℕ = c.args.row.group in
-    let key : ℕ = c.args.row.key in
-    let place : ℕ = c.args.row.place in
     let found = c.requires.found in
-    let can = found.group_of.search in
-    let row = found.row in
-    let none = found.group_of.call.so_far.no_entry in
-    let i = is_in b h n g key found.group_of in
     let s = c.in-Gone.ensures.steps in
-    found_stone b h n k c.args.row s.0 c.in-Gone.word found s.1 s.2 (c.in-Gone.ensures.tells.0 ∙ none)
+    found_stone c.args.board.now c.args.start.now.value c.args.hand.now c.update.new.hand c.args.row s.0
+    c.in-Gone.word found s.1 s.2
+    (c.in-Gone.ensures.tells.0 ∙ found.group_of.call.so_far.no_entry)
 
-pub returns-in-Done-clause-section : goal.returns-in-Done-clause-section
-returns-in-Done-clause-section c =
+pub returns-in-Done : goal.returns-in-Done
+returns-in-Done c =
     let b = c.args.board.now in
     let h = c.args.start.now.value in
     let n = c.args.hand.now in
@@ -51,47 +34,23 @@ returns-in-Done-clause-section c =
     let g : ℕ = c.args.row.group in
     let key : ℕ = c.args.row.key in
     let place : ℕ = c.args.row.place in
-    let found = c.requires.found in
-    let can = found.group_of.search in
-    let row = found.row in
-    let none = found.group_of.call.so_far.no_entry in
-    let i = is_in b h n g key found.group_of in
-    (in_done b h n g key place i can row k (put_at b n place c.args.value) c.in-Done.old
-    c.in-Done.ensures.steps).section
-
-pub returns-in-Done-clause-rows : goal.returns-in-Done-clause-rows
-returns-in-Done-clause-rows c =
-    let b = c.args.board.now in
-    let h = c.args.start.now.value in
-    let n = c.args.hand.now in
-    let k = c.update.new.hand in
-    let g : ℕ = c.args.row.group in
-    let key : ℕ = c.args.row.key in
-    let place : ℕ = c.args.row.place in
-    let found = c.requires.found in
-    let can = found.group_of.search in
-    let row = found.row in
-    let none = found.group_of.call.so_far.no_entry in
-    let i = is_in b h n g key found.group_of in
-    (in_done b h n g key place i can row k (put_at b n place c.args.value) c.in-Done.old
-    c.in-Done.ensures.steps).rows
-
-pub returns-in-Done-clause-tells : goal.returns-in-Done-clause-tells
-returns-in-Done-clause-tells c =
-    let b = c.args.board.now in
-    let h = c.args.start.now.value in
-    let n = c.args.hand.now in
-    let k = c.update.new.hand in
-    let g : ℕ = c.args.row.group in
-    let key : ℕ = c.args.row.key in
-    let place : ℕ = c.args.row.place in
-    let found = c.requires.found in
-    let can = found.group_of.search in
-    let row = found.row in
-    let none = found.group_of.call.so_far.no_entry in
-    let i = is_in b h n g key found.group_of in
-    adds_whole b h n k (put_at b n place c.args.value) (Put h.number key c.args.value) c.in-Done.old i none
-    (put_is b h n g key place i can row c.args.value) c.in-Done.ensures.tells
+    let at = c.requires.found.group_of in
+    let row = c.requires.found.row in
+    let i = is_in b h n g key at in
+    let change = put_at b n place c.args.value in
+    let done = c.in-Done.ensures in
+    let ik = in_done b h n g key place i at.search row k change c.in-Done.old done.steps in
+    record {
+      call = search rules;
+      number = ik.number;
+      section = ik.section;
+      exchanges = write_makes_one b n place change c.update.result k at.search.call.of
+          c.update.ensures.steps;
+      rows = ik.rows;
+      tells = adds_whole b h n k change (Put h.number key c.args.value) c.in-Done.old i
+          at.call.so_far.no_entry (put_is b h n g key place i at.search row c.args.value) done.tells;
+      not_full = search rules;
+    }
 
 pub refused-requires : goal.refused-requires
 refused-requires c =
@@ -135,14 +94,6 @@ returns-in_default c =
       tells = tells;
       not_full = search rules;
     }
-
-pub returns-in-Done-clause-exchanges : goal.returns-in-Done-clause-exchanges
-returns-in-Done-clause-exchanges c =
-    let b = c.args.board.now in
-    let n = c.args.hand.now in
-    let place : ℕ = c.args.row.place in
-    write_makes_one b n place (put_at b n place c.args.value) c.update.result c.update.new.hand
-    c.requires.found.group_of.search.call.of c.update.ensures.steps
 
 pub returns-in-Gone-clause-exchanges : goal.returns-in-Gone-clause-exchanges
 returns-in-Gone-clause-exchanges c =

@@ -6,7 +6,7 @@ use Rattle.point_calls.specs.Putting.{HasFoundGap, HasFoundRow}
 use Rattle.point_calls.proofs.Knowing.{in_walk}
 use Rattle.point_calls.proofs.Missing.{group_reached, in_comes}
 use Rattle.point_calls.proofs.RowPutting.{found_gap, found_group}
-use Rattle.point_calls.proofs.Exchanging.{lock_in_put, none_before, row_in_put}
+use Rattle.point_calls.proofs.CallExchanges.{lock_in_put, none_before, row_in_put}
 use Rattle.point_calls.proofs.putting.put.Goals as goal
 
 pub overwrite-requires-clause-found : goal.overwrite-requires-clause-found

@@ -13,8 +13,8 @@ use Rattle.point_calls.proofs.RowChanging.{removed_tells}
 use Rattle.point_calls.proofs.RowReading.{missed_stone, ready_row}
 use Rattle.point_calls.proofs.Refusals.{in_refused, is_refusal, remove_tells, write_refused}
 use Rattle.point_calls.specs.Exchanges.{no_exchange, one_lock}
-use Rattle.point_calls.proofs.Exchanging.{few_before, few_behind, lock_or_none, none_before}
-use Rattle.point_calls.proofs.Exchanging.{write_makes_one}
+use Rattle.point_calls.proofs.Exchanging.{few_before, few_behind}
+use Rattle.point_calls.proofs.CallExchanges.{lock_or_none, none_before, write_makes_one}
 use Rattle.point_calls.proofs.removing.remove.Goals as goal
 
 pub miss-requires : goal.miss-requires
@@ -34,63 +34,6 @@ pub kill-requires : goal.kill-requires
 kill-requires c =
     ready_row c.args.board.now c.locate-group.result c.args.key c.in-Row.place c.find.new.hand
     c.find.ensures.search c.in-Row.ensures.finds
-
-pub returns-in-Done-clause-section : goal.returns-in-Done-clause-section
-returns-in-Done-clause-section c =
-    let b = c.args.board.now in
-    let h = c.args.hand.now in
-    let l = c.locate-group.new.hand in
-    let n = c.find.new.hand in
-    let k = c.kill.new.hand in
-    let g : ℕ = c.locate-group.result in
-    let key : ℕ = c.args.key in
-    let comes = c.locate-group.ensures.comes in
-    let il = in_comes b h l g c.requires.call.of comes in
-    let w = c.find.ensures.steps in
-    let i = in_walk b g h l w.0 n w.1 w.2 il in
-    let can = c.find.ensures.search in
-    let row = c.in-Row.ensures.finds in
-    let none = c.find.ensures.log ∙ comes.no_entry in
-    (in_done b h n g key c.in-Row.place i can row k (remove_at b n c.in-Row.place) c.in-Done.old
-    c.in-Done.ensures.steps).section
-
-pub returns-in-Done-clause-rows : goal.returns-in-Done-clause-rows
-returns-in-Done-clause-rows c =
-    let b = c.args.board.now in
-    let h = c.args.hand.now in
-    let l = c.locate-group.new.hand in
-    let n = c.find.new.hand in
-    let k = c.kill.new.hand in
-    let g : ℕ = c.locate-group.result in
-    let key : ℕ = c.args.key in
-    let comes = c.locate-group.ensures.comes in
-    let il = in_comes b h l g c.requires.call.of comes in
-    let w = c.find.ensures.steps in
-    let i = in_walk b g h l w.0 n w.1 w.2 il in
-    let can = c.find.ensures.search in
-    let row = c.in-Row.ensures.finds in
-    let none = c.find.ensures.log ∙ comes.no_entry in
-    (in_done b h n g key c.in-Row.place i can row k (remove_at b n c.in-Row.place) c.in-Done.old
-    c.in-Done.ensures.steps).rows
-
-pub returns-in-Done-clause-tells : goal.returns-in-Done-clause-tells
-returns-in-Done-clause-tells c =
-    let b = c.args.board.now in
-    let h = c.args.hand.now in
-    let l = c.locate-group.new.hand in
-    let n = c.find.new.hand in
-    let k = c.kill.new.hand in
-    let g : ℕ = c.locate-group.result in
-    let key : ℕ = c.args.key in
-    let comes = c.locate-group.ensures.comes in
-    let il = in_comes b h l g c.requires.call.of comes in
-    let w = c.find.ensures.steps in
-    let i = in_walk b g h l w.0 n w.1 w.2 il in
-    let can = c.find.ensures.search in
-    let row = c.in-Row.ensures.finds in
-    let none = c.find.ensures.log ∙ comes.no_entry in
-    removed_tells b h n g key c.in-Row.place i can row k c.in-Done.old none c.in-Done.ensures.steps
-    c.in-Done.ensures.tells
 
 pub miss-requires-in-Gone : goal.miss-requires-in-Gone
 miss-requires-in-Gone c =
@@ -183,19 +126,6 @@ returns-in_default-clause-exchanges c =
     (few_behind no_exchange h n c.miss.new.hand (none_before b h l n g c.requires.call.of comes f.steps)
     c.miss.ensures.exchanges)
 
-pub returns-in-Done-clause-exchanges : goal.returns-in-Done-clause-exchanges
-returns-in-Done-clause-exchanges c =
-    let b = c.args.board.now in
-    let h = c.args.hand.now in
-    let l = c.locate-group.new.hand in
-    let n = c.find.new.hand in
-    let g : ℕ = c.locate-group.result in
-    let comes = c.locate-group.ensures.comes in
-    let f = c.find.ensures in
-    few_behind one_lock h n c.kill.new.hand (none_before b h l n g c.requires.call.of comes f.steps)
-    (write_makes_one b n c.in-Row.place (remove_at b n c.in-Row.place) c.kill.result c.kill.new.hand
-    f.search.call.of c.kill.ensures.steps)
-
 pub returns-in-Gone-clause-exchanges : goal.returns-in-Gone-clause-exchanges
 returns-in-Gone-clause-exchanges c =
     let b = c.args.board.now in
@@ -210,3 +140,30 @@ returns-in-Gone-clause-exchanges c =
     (write_makes_one b n c.in-Row.place (remove_at b n c.in-Row.place) c.kill.result c.kill.new.hand
     f.search.call.of c.kill.ensures.steps)
     c.miss-in-Gone.ensures.exchanges)
+
+pub returns-in-Done : goal.returns-in-Done
+returns-in-Done c =
+    let b = c.args.board.now in
+    let h = c.args.hand.now in
+    let l = c.locate-group.new.hand in
+    let n = c.find.new.hand in
+    let k = c.kill.new.hand in
+    let g : ℕ = c.locate-group.result in
+    let place : ℕ = c.in-Row.place in
+    let comes = c.locate-group.ensures.comes in
+    let f = c.find.ensures in
+    let i = in_walk b g h l f.steps.0 n f.steps.1 f.steps.2 (in_comes b h l g c.requires.call.of comes) in
+    let row = c.in-Row.ensures.finds in
+    let ik = in_done b h n g c.args.key place i f.search row k (remove_at b n place) c.in-Done.old
+    c.in-Done.ensures.steps in
+    record {
+      call = search rules;
+      number = ik.number;
+      section = ik.section;
+      rows = ik.rows;
+      exchanges = few_behind one_lock h n k (none_before b h l n g c.requires.call.of comes f.steps)
+          (write_makes_one b n place (remove_at b n place) c.kill.result k f.search.call.of
+          c.kill.ensures.steps);
+      tells = removed_tells b h n g c.args.key place i f.search row k c.in-Done.old
+          (f.log ∙ comes.no_entry) c.in-Done.ensures.steps c.in-Done.ensures.tells;
+    }
