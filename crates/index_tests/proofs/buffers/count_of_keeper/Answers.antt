@@ -10,7 +10,7 @@ pub count-requires : goal.count-requires
 count-requires c =
     let b = c.args.board.now in
     let h = c.args.keeper.now in
-    let k = c.load_root.new.keeper in
+    let k = c.load_root.new.hand in
     let loads = c.load_root.ensures in
     let two = c.requires.groups in
     let built = built_known b h k (LoadRoot c.load_root.result) c.requires.hand loads in
