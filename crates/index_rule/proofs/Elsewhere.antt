@@ -21,7 +21,7 @@ use Rattle.machine_barriers.proofs.OpenedGroups.{open_not, opened_groups_hold}
 use Rattle.machine_barriers.proofs.Reaches.{may_as}
 use Rattle.machine_places.proofs.FromOpening.{agreement}
 use Rattle.machine_places.specs.Agreement.{HasLiveValue}
-use Rattle.machine_places.proofs.Forms.{none_some}
+use Rattle.index_machine.proofs.Options.{none_some}
 use Rattle.machine_readers.proofs.FromOpening.{buffer_tombstones, insert_behind, insert_open}
 use Rattle.machine_readers.proofs.FromOpening.{stay_behind, without_value}
 use Rattle.machine_readers.proofs.ReadSections.{group_on, group_step, opened_step, saw_open_on}

@@ -16,16 +16,7 @@ use Rattle.index_machine.specs.LivePlaces.{live_place}
 use Rattle.index_machine.specs.Permissions.{IsBufferFor, MayInsertInto}
 use Rattle.index_machine.specs.Places.{form}
 use Rattle.index_machine.specs.Rows.{InArray, InBuffer, Role, role, role_key}
-<<<<<<< HEAD
-use Rattle.index_machine.specs.Sections.{IsCaller, StaysInside}
-use Rattle.machine_barriers.proofs.OpenedGroups.{open_not, opened_groups_hold}
-use Rattle.machine_barriers.proofs.Reaches.{may_as}
-use Rattle.machine_places.proofs.FromOpening.{agreement}
-use Rattle.machine_places.specs.Agreement.{HasLiveValue}
-use Rattle.index_machine.proofs.Options.{none_some}
-=======
 use Rattle.index_machine.specs.Sections.{IsCaller}
->>>>>>> bae127be171a7f96b4a1b9675c2dee25c4e313ec
 use Rattle.machine_readers.proofs.FormsMet.{groups_hold}
 use Rattle.machine_readers.proofs.FromOpening.{one_place_each}
 use Rattle.machine_readers.specs.Readers.{BufferHasNone}
