@@ -1,3 +1,4 @@
 pub mod Outcome
 pub mod Served
 pub mod PlainLaw
+pub mod Real

@@ -1,6 +1,6 @@
 //! The real ends: standard input and standard output, or any reader and writer in their place.
 //!
-//! They tell no bytes, since no contract can say what a stream holds. Each counts its errors.
+//! They tell a session no bytes, since no contract can say what a stream holds. Each counts its errors.
 
 mod input;
 mod output;
@@ -9,23 +9,44 @@ pub use input::StandardInput;
 pub use output::StandardOutput;
 
 #[cfg(test)]
-mod tests {
+pub(crate) mod tests {
     use super::*;
     use line_session::{Gave, Sink, Source, Took};
-    use std::io::{Result, Write};
+    use std::io::{Error, ErrorKind, Read, Result, Write};
     use std::test::Fail;
 
-    // Takes no byte of anything.
+    // A reader of which each read errs.
     #[derive(Drop)]
-    struct Closed;
+    pub(crate) struct Unreadable;
 
-    impl Write for Closed {
-        fn write(&mut self, _piece: &[u8]) -> Result<usize> {
-            Ok(0)
+    impl Read for Unreadable {
+        fn read(&mut self, _into: &mut [u8]) -> Result<usize> {
+            Err(Error::from(ErrorKind::Other))
+        }
+    }
+
+    // A writer that takes nothing, errs at each write, or errs at each flush.
+    #[derive(Clone, Copy, Debug, PartialEq, Eq, Drop)]
+    pub(crate) enum Unwritable {
+        TakesNothing,
+        ErrsAtWrite,
+        ErrsAtFlush,
+    }
+
+    impl Write for Unwritable {
+        fn write(&mut self, piece: &[u8]) -> Result<usize> {
+            match self {
+                Unwritable::TakesNothing => Ok(0),
+                Unwritable::ErrsAtWrite => Err(Error::from(ErrorKind::Other)),
+                Unwritable::ErrsAtFlush => Ok(piece.len()),
+            }
         }
 
         fn flush(&mut self) -> Result<()> {
-            Ok(())
+            match self {
+                Unwritable::ErrsAtFlush => Err(Error::from(ErrorKind::Other)),
+                _ => Ok(()),
+            }
         }
     }
 
@@ -40,13 +61,32 @@ mod tests {
     }
 
     #[test]
-    fn a_writer_that_takes_nothing_has_failed(rt: HostRuntime) -> std::result::Result<(), Fail> {
+    fn a_read_that_errs_is_no_end(rt: HostRuntime) {
+        let mut source = StandardInput::new(b"get".as_slice().chain(Unreadable));
+        let mut buffer = [0; 4];
+        assert_eq!(rt; source.read(&mut buffer), Took::Bytes(3));
+        assert_eq!(rt; source.read(&mut buffer), Took::Failed);
+        assert_eq!(rt; source.faults(), 1);
+    }
+
+    #[test]
+    fn a_piece_is_written(rt: HostRuntime) -> std::result::Result<(), Fail> {
         let mut sink = StandardOutput::new(Vec::new(rt.alloc()));
         assert_eq!(rt; sink.take(b"none\n"), Gave::Bytes(5));
         assert_eq!(rt; sink.faults(), 0);
-        let mut sink = StandardOutput::new(Closed);
-        assert_eq!(rt; sink.take(b"none\n"), Gave::Failed);
-        assert_eq!(rt; sink.faults(), 1);
         Ok(())
+    }
+
+    #[test]
+    fn a_write_that_takes_nothing_or_errs_or_is_not_flushed_has_failed(rt: HostRuntime) {
+        for writer in [
+            Unwritable::TakesNothing,
+            Unwritable::ErrsAtWrite,
+            Unwritable::ErrsAtFlush,
+        ] {
+            let mut sink = StandardOutput::new(writer);
+            assert_eq!(rt; sink.take(b"none\n"), Gave::Failed, "{writer:?}");
+            assert_eq!(rt; sink.faults(), 1, "{writer:?}");
+        }
     }
 }

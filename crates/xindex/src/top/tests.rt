@@ -1,6 +1,9 @@
 //! Worked sessions, and what stops one.
 use super::*;
+use crate::real::tests::{Unreadable, Unwritable};
+use crate::{StandardInput, StandardOutput};
 use line_session::{BytesSink, BytesSource};
+use std::io::Read;
 use std::test::Fail;
 
 const SESSION: &[u8] = b"put 5 50\nget 5\nput 5 51\nremove 5\nget 5\nremove 5\n";
@@ -231,6 +234,22 @@ fn a_fault_has_its_status_and_loses_no_reply_before_it(rt: HostRuntime) -> Resul
             output,
             "{line} with failing calls {read} and {write}"
         );
+    }
+    Ok(())
+}
+
+#[test]
+fn an_error_of_a_stream_has_its_status(rt: HostRuntime) -> Result<(), Fail> {
+    let mut source = StandardInput::new(SESSION.chain(Unreadable));
+    let mut sink = BytesSink::new(rt.alloc(), 1000, &[])?;
+    let outcome = xindex(&rt, rt.alloc(), &["pipe"], &mut source, &mut sink);
+    assert_eq!(rt; outcome.status.number(), 3);
+    assert_eq!(rt; sink.bytes(), REPLIES);
+    for writer in [Unwritable::ErrsAtWrite, Unwritable::ErrsAtFlush] {
+        let mut source = StandardInput::new(SESSION);
+        let mut sink = StandardOutput::new(writer);
+        let outcome = xindex(&rt, rt.alloc(), &["pipe"], &mut source, &mut sink);
+        assert_eq!(rt; outcome.status.number(), 4, "{writer:?}");
     }
     Ok(())
 }
