@@ -1,4 +1,3 @@
-pub mod HeldRows
 pub mod NewHands
 mod RowCounting
 pub mod UsedRows
