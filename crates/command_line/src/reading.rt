@@ -82,110 +82,59 @@ mod tests {
 
     #[test]
     fn each_option_of_a_limit_changes_its_own_field(rt: HostRuntime) -> Result<(), Fail> {
-        let standard = Limits::standard();
-        for (line, limits) in [
-            (
-                "pipe --callers 7",
-                Limits {
-                    callers: 7,
-                    ..standard
-                },
-            ),
-            (
-                "pipe --records=3",
-                Limits {
-                    records: 3,
-                    ..standard
-                },
-            ),
-            (
-                "--groups 007 pipe",
-                Limits {
-                    groups: 7,
-                    ..standard
-                },
-            ),
-            (
-                "--group-size=8 pipe",
-                Limits {
-                    group_size: 8,
-                    ..standard
-                },
-            ),
-            (
-                "pipe --slots 0",
-                Limits {
-                    slots: 0,
-                    ..standard
-                },
-            ),
-            (
-                "pipe --due 257",
-                Limits {
-                    due: 257,
-                    ..standard
-                },
-            ),
-            (
-                "pipe --assist 1",
-                Limits {
-                    help: 1,
-                    ..standard
-                },
-            ),
-            (
-                "pipe --chain 2",
-                Limits {
-                    chain: 2,
-                    ..standard
-                },
-            ),
-            (
-                "pipe --first-version 18446744073709551615",
-                Limits {
-                    first_version: u64::MAX,
-                    ..standard
-                },
-            ),
-            (
-                "pipe --callers 4294967295",
-                Limits {
-                    callers: u32::MAX,
-                    ..standard
-                },
-            ),
-            (
-                "pipe --due 4294967296",
-                Limits {
-                    due: u32::MAX,
-                    ..standard
-                },
-            ),
-            (
-                "pipe --chain 18446744073709551615",
-                Limits {
-                    chain: u32::MAX,
-                    ..standard
-                },
-            ),
+        let table = [
+            ("pipe --callers 7", [("callers", 7)].as_slice()),
+            ("pipe --records=3", &[("records", 3)]),
+            ("--groups 007 pipe", &[("groups", 7)]),
+            ("--group-size=8 pipe", &[("group_size", 8)]),
+            ("pipe --slots 0", &[("slots", 0)]),
+            ("pipe --due 257", &[("due", 257)]),
+            ("pipe --assist 1", &[("help", 1)]),
+            ("pipe --chain 2", &[("chain", 2)]),
+            ("pipe --callers 4294967295", &[("callers", u32::MAX)]),
+            ("pipe --due 4294967296", &[("due", u32::MAX)]),
+            ("pipe --chain 18446744073709551615", &[("chain", u32::MAX)]),
             (
                 "--due 2 pipe --records 100 --assist=9",
-                Limits {
-                    due: 2,
-                    records: 100,
-                    help: 9,
-                    ..standard
-                },
+                &[("due", 2), ("records", 100), ("help", 9)],
             ),
-        ] {
-            let asked = Ok(Command {
-                mode: Mode::Pipe,
-                bytes: MOST_BYTES,
-                limits,
-            });
+        ];
+        for (line, changes) in table {
+            let asked = Ok(pipe(changed(changes)));
             assert_eq!(rt; read_line(rt.alloc(), line)?, asked, "{line}");
         }
+        let mut limits = Limits::standard();
+        limits.first_version = u64::MAX;
+        let line = "pipe --first-version 18446744073709551615";
+        assert_eq!(rt; read_line(rt.alloc(), line)?, Ok(pipe(limits)), "{line}");
         Ok(())
+    }
+
+    // The command of a session with these limits.
+    fn pipe(limits: Limits) -> Command {
+        Command {
+            mode: Mode::Pipe,
+            bytes: MOST_BYTES,
+            limits,
+        }
+    }
+
+    // The standard limits, but for these numbers.
+    fn changed(changes: &[(&str, u32)]) -> Limits {
+        let mut limits = Limits::standard();
+        for &(field, number) in changes {
+            match field {
+                "callers" => limits.callers = number,
+                "records" => limits.records = number,
+                "groups" => limits.groups = number,
+                "group_size" => limits.group_size = number,
+                "slots" => limits.slots = number,
+                "due" => limits.due = number,
+                "help" => limits.help = number,
+                _ => limits.chain = number,
+            }
+        }
+        limits
     }
 
     #[test]

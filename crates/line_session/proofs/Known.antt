@@ -11,10 +11,6 @@ pub append_known-append : (known : Option (List ℕ)) (xs ys : List ℕ) → app
 append_known-append None xs ys = refl
 append_known-append (Some ws) xs ys = ap (λ (l : List ℕ). Some l) (sym (append_assoc ws xs ys))
 
-pub prepend_known-nil : (known : Option (List ℕ)) → prepend_known [] known ≡ known
-prepend_known-nil None = refl
-prepend_known-nil (Some xs) = refl
-
 pub prepend_known-append : (xs ys : List ℕ) (known : Option (List ℕ)) → prepend_known (xs ++ ys) known ≡ prepend_known xs (prepend_known ys known)
 prepend_known-append xs ys None = refl
 prepend_known-append xs ys (Some ws) = ap (λ (l : List ℕ). Some l) (append_assoc xs ys ws)

@@ -2,8 +2,7 @@
 use Rattle.std.proofs.Common.{◌≡◌, ℕ, zero, suc, ◌+◌, ◌-◌, ◌<◌, ◌≤◌, List, length, get_or, arith, add-one, add-zero, add-suc, zero-add, ap}
 use Rattle.std.specs.List.Sorted.{IsStrictlyIncreasing}
 use Rattle.std.proofs.lemmas.List.{get_or_past}
-use Rattle.line_window.specs.Line.{IsLine, line_with, line_of, first_of, last_of, error_of}
-use Rattle.line_window.proofs.Guesses.{error_of-within}
+use Rattle.line_window.specs.Line.{IsLine, line_with, first_of, last_of}
 
 -- a key that stands further on is greater by at least the distance
 pub rises : (keys : List ℕ) (i by : ℕ) → IsStrictlyIncreasing keys → i + by < length keys → get_or keys i 0 + by ≤ get_or keys (i + by) 0
@@ -37,7 +36,3 @@ is_line keys error rising near =
       more = first-below-last keys rising;
       error = near;
     }
-
--- the line of a rising list is one
-pub line_of-is_line : (keys : List ℕ) → IsStrictlyIncreasing keys → IsLine (line_of keys)
-line_of-is_line keys rising = is_line keys (error_of keys) rising (error_of-within keys)
