@@ -4,7 +4,7 @@ ghost use Rattle.index_machine.specs.Sections.{IsCaller};
 ghost use Rattle.index_rule.specs.Hands.{IsHandOf, known, opening_of};
 ghost use Rattle.index_rule.specs.Records.{MayRelease};
 ghost use Rattle.record_cell.specs.Finding.{IsReadyAt};
-ghost use Rattle.index_tests.specs.Boards.{IsInside, Rests};
+ghost use Rattle.index_tests.specs.Boards.{Rests};
 ghost use Rattle.index_tests.specs.Records.{HasRow};
 
 use crate::boards::{SMALL, enter, next_hand, opened};

@@ -1,7 +1,6 @@
 //! Three callers read and change three records at once.
-ghost use Rattle.std.specs.Prelude.{◌≡◌, ◌+◌, ◌<◌, length};
+ghost use Rattle.std.specs.Prelude.{◌≡◌, ◌<◌};
 ghost use Rattle.index_machine.specs.Sections.{IsCaller};
-ghost use Rattle.index_machine.specs.Words.{limits};
 ghost use Rattle.index_rule.specs.Hands.{opening_of};
 ghost use Rattle.record_cell.specs.Finding.{IsReadyAt};
 ghost use Rattle.index_tests.specs.Boards.{Rests};
