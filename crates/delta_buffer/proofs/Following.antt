@@ -33,7 +33,7 @@ use Rattle.index_rule.specs.Hands.{Makes, known, opening_of}
 use Rattle.index_rule.proofs.RecordStepping.{goes_on_inside, now, since, still_inside, still_stands}
 use Rattle.index_rule.proofs.Stepping.{others_only, valid_after, valid_known}
 use Rattle.delta_buffer.specs.Following.{BuffersStayWalkableForKeepers, CanFollow, HasWholeBuffer}
-use Rattle.delta_buffer.specs.Following.{KeepersCanFollow, LeavesWhole}
+use Rattle.delta_buffer.specs.Following.{KeepersCanFollow, KeepsWhole}
 use Rattle.delta_buffer.specs.Searching.{CanSearch}
 use Rattle.delta_buffer.specs.Walks.{FollowsLink, IsWalkOf, load_of_link}
 use Rattle.delta_buffer.proofs.Links.{link_below, link_is_walk, link_says}
@@ -77,17 +77,17 @@ begins_keeper o t b g d may begins =
     (may_as o t b d (NewGroup g begins.0 begins.1 begins.2) begins.3 may).keeper
 
 whole_while : (o : Opening) (c g : ℕ) → IsKeeper o c → (n t : Execution) → Valid o (n ++ t) →
-    LeavesWhole o c g n t → IsLeftWhole o g n t
-whole_while o c g keeper [] t valid leaves = tt
-whole_while o c g keeper (e ∷ n) t valid leaves = (
-  λ takes. leaves.0
+    KeepsWhole o c g n t → IsLeftWhole o g n t
+whole_while o c g keeper [] t valid keeps = tt
+whole_while o c g keeper (e ∷ n) t valid keeps = (
+  λ takes. keeps.0
       (takes_keeper o (n ++ t) e.by g e.action valid.0 takes ∙ sym keeper) takes,
-  whole_while o c g keeper n t valid.1 leaves.1,
+  whole_while o c g keeper n t valid.1 keeps.1,
 )
 
-others_leave : (o : Opening) (c g : ℕ) (n t : Execution) → Without c n → LeavesWhole o c g n t
-others_leave o c g [] t out = tt
-others_leave o c g (e ∷ n) t out = ((λ own. absurd (out.0 own)), others_leave o c g n t out.1)
+others_keep : (o : Opening) (c g : ℕ) (n t : Execution) → Without c n → KeepsWhole o c g n t
+others_keep o c g [] t out = tt
+others_keep o c g (e ∷ n) t out = ((λ own. absurd (out.0 own)), others_keep o c g n t out.1)
 
 others_begin_none : (o : Opening) (c g : ℕ) → IsKeeper o c → (n t : Execution) →
     Valid o (n ++ t) → Without c n → BeginsNever g n
@@ -98,8 +98,8 @@ others_begin_none o c g keeper (e ∷ n) t valid out = (
 )
 
 pub stays_walkable : BuffersStayWalkableForKeepers
-stays_walkable o c g keeper n t valid leaves w =
-    walkable_until o g n t valid (whole_while o c g keeper n t valid leaves) w
+stays_walkable o c g keeper n t valid keeps w =
+    walkable_until o g n t valid (whole_while o c g keeper n t valid keeps) w
 
 -- ---- who can follow ----
 
@@ -150,10 +150,10 @@ module _ (b : Board) (g : ℕ) (h k : Hand) (d : Action) (is : IsWalkOf g d) (m 
   stays : StaysInside h.number (since b h k d can.of m)
   stays = goes_on_inside b h k d can.of m (no_crossing g d is)
 
-  leaves : LeavesWhole (opening_of b) h.number g (since b h k d can.of m) (known h)
-  leaves = (
+  keeps : KeepsWhole (opening_of b) h.number g (since b h k d can.of m) (known h)
+  keeps = (
     λ _ takes. walk_takes_none (opening_of b) g d (m.acts.0 ++ known h) is takes,
-    others_leave (opening_of b) h.number g m.acts.0 (known h) (others_only b h k d can.of m),
+    others_keep (opening_of b) h.number g m.acts.0 (known h) (others_only b h k d can.of m),
   )
 
   walkable_on : IsWalkable (opening_of b) g (known k)
@@ -166,7 +166,7 @@ module _ (b : Board) (g : ℕ) (h k : Hand) (d : Action) (is : IsWalkOf g d) (m 
       walkable_while o h.number g z.0.caller (since b h k d can.of m) (known h) valid stays z.1
       can.walkable)
       (λ (z : IsKeeper o h.number).
-      stays_walkable o h.number g z (since b h k d can.of m) (known h) valid leaves can.walkable)
+      stays_walkable o h.number g z (since b h k d can.of m) (known h) valid keeps can.walkable)
       can.may_walk)
 
   -- the hand can go on

@@ -47,9 +47,9 @@ use Rattle.index_rule.proofs.RecordReading.{log_is, no_entry}
 use Rattle.index_rule.proofs.RecordStepping.{goes_on_inside, now, since}
 use Rattle.index_rule.proofs.Stepping.{held_word_is, known_is, others_only, still_holds}
 use Rattle.index_rule.proofs.Stepping.{valid_after}
-use Rattle.record_cell.proofs.Revivable.{KnowsNoneElsewhere, elsewhere_now, elsewhere_on}
-use Rattle.record_cell.proofs.Revivable.{lives_nowhere, not_in_map}
-use Rattle.row_arena.proofs.HeldRows.{other_word, stored_word, stores_part}
+use Rattle.index_rule.proofs.Elsewhere.{KnowsNoneElsewhere, elsewhere_now, elsewhere_on}
+use Rattle.index_rule.proofs.Elsewhere.{lives_nowhere, not_in_map}
+use Rattle.index_rule.proofs.HeldRows.{other_word, stored_word, stores_part}
 use Rattle.delta_buffer.specs.Inserting.{CanInsert, InsertTells, Inserts, KeepsRow, OnlyStores}
 use Rattle.delta_buffer.specs.Inserting.{BelongsUntilLinked, IsPrivateStore}
 use Rattle.delta_buffer.specs.Inserting.{KeysWithoutAValueBelong, change_of}

@@ -28,7 +28,7 @@ use Rattle.index_rule.specs.declared.board.Board.{Board}
 use Rattle.index_rule.specs.declared.hand.Hand.{Hand}
 use Rattle.index_rule.specs.Hands.{known, opening_of}
 use Rattle.index_rule.proofs.Calls.{HasBegun, begun_on, goes_on}
-use Rattle.row_arena.proofs.UsedRows.{rows-length}
+use Rattle.index_rule.proofs.HeldRows.{rows-length}
 use Rattle.delta_buffer.specs.Following.{CanFollow}
 use Rattle.delta_buffer.specs.Searching.{IsReachedRow}
 use Rattle.delta_buffer.specs.Walks.{FollowsLink, load_of_link}

@@ -33,10 +33,10 @@ HasWholeBuffer o group t =
     ⊎ (((k : ℕ) × (predecessor o k t ≡ Some group)) × (IsReplaced o group t → ⊥))
 
 -- by these newer events the hand itself takes no row out of the buffer and refills no head
-abbrev pub LeavesWhole : Opening → ℕ → ℕ → Execution → Execution → Type 0
-LeavesWhole o hand group [] t = Unit {0}
-LeavesWhole o hand group (e ∷ newer) t =
-    (e.by ≡ hand → TakesApart o group e.action (newer ++ t) → ⊥) × LeavesWhole o hand group newer t
+abbrev pub KeepsWhole : Opening → ℕ → ℕ → Execution → Execution → Type 0
+KeepsWhole o hand group [] t = Unit {0}
+KeepsWhole o hand group (e ∷ newer) t =
+    (e.by ≡ hand → TakesApart o group e.action (newer ++ t) → ⊥) × KeepsWhole o hand group newer t
 
 -- ---- the laws ----
 
@@ -47,9 +47,9 @@ KeepersCanFollow =
     group < (limits (opening_of b)).groups → HasWholeBuffer (opening_of b) group (known h) →
     CanFollow b group h
 
--- a buffer that is walkable stays so as long as the keeper leaves it whole, whatever the others do
+-- a buffer that is walkable stays so as long as the keeper keeps it whole, whatever others do
 abbrev pub BuffersStayWalkableForKeepers : Type 0
 BuffersStayWalkableForKeepers =
     (o : Opening) (keeper group : ℕ) → IsKeeper o keeper → (newer t : Execution) →
-    Valid o (newer ++ t) → LeavesWhole o keeper group newer t → IsWalkable o group t →
+    Valid o (newer ++ t) → KeepsWhole o keeper group newer t → IsWalkable o group t →
     IsWalkable o group (newer ++ t)

@@ -23,7 +23,7 @@ use Rattle.index_rule.specs.Buffers.{IsFilled, inserted_by, key_in}
 use Rattle.index_rule.specs.Hands.{MakesAll, known, opening_of}
 use Rattle.index_rule.specs.Moments.{AddsChange, AddsNoEntry}
 use Rattle.index_rule.specs.OwnRows.{place_of_private}
-use Rattle.record_cell.specs.Reviving.{HasNoneElsewhere}
+use Rattle.index_rule.specs.Elsewhere.{HasNoneElsewhere}
 use Rattle.delta_buffer.specs.Searching.{BelongsBetween}
 
 -- ---- what it needs ----

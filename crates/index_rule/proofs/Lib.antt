@@ -25,4 +25,6 @@ pub mod RecordStepping
 pub mod RecordReading
 pub mod RootStepping
 pub mod BufferStepping
+pub mod Elsewhere
+pub mod HeldRows
 pub mod Heeding

@@ -14,3 +14,4 @@ pub mod Ended
 pub mod LockWords
 pub mod Records
 pub mod Buffers
+pub mod Elsewhere

@@ -1,4 +1,5 @@
 //! What a call that is tried once answers, and why it did not come to its end.
+use std::fmt;
 
 /// What a call came to.
 #[derive(Clone, Copy, Debug, PartialEq, Eq)]
@@ -39,4 +40,43 @@ pub enum Why {
         expected: u64,
         found: u64,
     },
+}
+
+impl fmt::Display for Why {
+    fn fmt<W: fmt::Write>(&self, f: &mut fmt::Formatter<W>) -> fmt::Result {
+        match self {
+            Why::Locked { place, word } => {
+                write!(
+                    f,
+                    "the record at {place} is locked: its state word is {word}"
+                )
+            }
+            Why::Changed {
+                place,
+                first,
+                second,
+            } => {
+                write!(
+                    f,
+                    "the record at {place} was changed: its state word was {first}, then {second}"
+                )
+            }
+            Why::Frozen { group, word } => {
+                write!(
+                    f,
+                    "group {group} takes no new keys: its phase word is {word}"
+                )
+            }
+            Why::Raced {
+                place,
+                expected,
+                found,
+            } => {
+                write!(
+                    f,
+                    "the word at {place} was to be {expected}, and was {found}"
+                )
+            }
+        }
+    }
 }

@@ -31,7 +31,7 @@ use Rattle.index_rule.proofs.BuiltLaws.{arrays_as_opened, groups_as_opened}
 use Rattle.index_rule.proofs.RecordStepping.{now, still_inside, still_stands}
 use Rattle.index_rule.proofs.RootStepping.{built_moment}
 use Rattle.index_rule.proofs.Stepping.{built_known, still_holds_no_lock, valid_after, valid_known}
-use Rattle.record_cell.proofs.Revivable.{KnowsNoneElsewhere, elsewhere_now, elsewhere_on}
+use Rattle.index_rule.proofs.Elsewhere.{KnowsNoneElsewhere, elsewhere_now, elsewhere_on}
 use Rattle.row_arena.specs.Taking.{Fills}
 use Rattle.delta_buffer.specs.Inserting.{BelongsUntilLinked, CanInsert}
 use Rattle.delta_buffer.specs.Searching.{BelongsBetween, FindsGap}

@@ -8,8 +8,8 @@ use Rattle.index_machine.specs.Words.{limits, word}
 use Rattle.index_rule.specs.declared.board.Board.{Board}
 use Rattle.index_rule.specs.declared.hand.Hand.{Hand}
 use Rattle.index_rule.specs.Buffers.{IsFilled, key_in}
+use Rattle.index_rule.specs.Elsewhere.{HasNoneWhereSeenOpen}
 use Rattle.index_rule.specs.Hands.{known, opening_of}
-use Rattle.record_cell.specs.Reviving.{HasNoneWhereSeenOpen}
 use Rattle.delta_buffer.specs.Searching.{CanSearch}
 
 -- the board has a caller and two groups, and was opened with no rows

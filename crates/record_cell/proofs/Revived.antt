@@ -25,6 +25,7 @@ use Rattle.index_rule.specs.Hands.{IsHandOf, Makes, MakesAll, known, opening_of}
 use Rattle.index_rule.specs.Moments.{AddsChange, AddsNoEntry}
 use Rattle.index_rule.specs.Records.{IsRevivable, MayRelease, change_by, key_at, or_zero}
 use Rattle.index_rule.proofs.Calls.{begins, begun_on, goes_on, within_end}
+use Rattle.index_rule.proofs.Elsewhere.{KnowsNoneElsewhere, elsewhere_now, elsewhere_on, not_in_map}
 use Rattle.index_rule.proofs.LockWords.{locked_on}
 use Rattle.index_rule.proofs.RecordReading.{no_entry}
 use Rattle.index_rule.proofs.RecordStepping.{goes_on_inside, locked_after_lock, no_other_after_lock}
@@ -44,7 +45,6 @@ use Rattle.record_cell.proofs.Changed.{Holds, adds_entry, may_release, put_is, r
 use Rattle.record_cell.proofs.Changed.{stored_holds}
 use Rattle.record_cell.proofs.Found.{can_step, found_as, ready_on, same_key_on, says_word}
 use Rattle.record_cell.proofs.Found.{still_at_own}
-use Rattle.record_cell.proofs.Revivable.{KnowsNoneElsewhere, elsewhere_now, elsewhere_on, not_in_map}
 use Rattle.record_cell.proofs.Revivable.{revivable, row_is_direct}
 use Rattle.record_cell.proofs.Told.{finds_last, finds_lock}
 

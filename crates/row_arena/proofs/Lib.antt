@@ -1,3 +1,2 @@
-pub mod HeldRows
 mod RowCounting
 pub mod UsedRows

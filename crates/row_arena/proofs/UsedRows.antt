@@ -1,13 +1,12 @@
 -- Where no record row is free, each one is in a hand or came into a buffer by a change.
-use Rattle.std.proofs.Common.{◌≡◌, ◌≢◌, ◌⊎◌, inl, inr, ℕ, zero, suc, ◌+◌, ◌<◌, ◌≤◌, Bool, true, false, cond}
-use Rattle.std.proofs.Common.{List, [], ◌∷◌, ◌++◌, length, refl, sym, ap, ◌∙◌, subst, arith, eq-eqb}
+use Rattle.std.proofs.Common.{◌≡◌, ◌≢◌, ◌⊎◌, inl, inr, ℕ, ◌+◌, ◌<◌, ◌≤◌, Bool, true, false, cond}
+use Rattle.std.proofs.Common.{List, [], ◌∷◌, ◌++◌, refl, sym, ap, ◌∙◌, subst, arith, eq-eqb}
 use mathlib.Core.Logic.{dite}
 use native.Mathlib.Decide.{ℕ_discrete}
 use Rattle.map_model.specs.History.{History, after, inserts, is_inserting}
 use Rattle.map_model.specs.Map.{Map}
 use Rattle.map_model.specs.declared.entries.Change.{Change}
-use Rattle.word_layout.specs.declared.limits.Limits.{Limits}
-use Rattle.word_layout.specs.Places.{IsRow, rows_from}
+use Rattle.word_layout.specs.Places.{IsRow}
 use Rattle.word_layout.specs.Words.{FreeHead}
 use Rattle.index_machine.specs.declared.events.Action.{Action}
 use Rattle.index_machine.specs.declared.events.Action.TheVariants.{LinkRow, Unlock}
@@ -26,6 +25,7 @@ use Rattle.index_machine.proofs.OpeningRows.{array_not_row}
 use Rattle.index_machine.proofs.Placing.{placed, rows-distinct}
 use Rattle.machine_places.specs.RowCounts.{all_rows, is_linked_or_retired}
 use Rattle.machine_places.proofs.RowCounts.{linked_rows}
+use Rattle.index_rule.proofs.HeldRows.{rows-length}
 use Rattle.row_arena.specs.Fullness.{UsedUpRowsStaySo, NoFreeRowMeansUsedUp}
 use Rattle.row_arena.proofs.RowCounting.{all_counted, below_fewer}
 
@@ -86,10 +86,6 @@ module _ (o : Opening) (t : Execution) (valid : Valid o t) where
       stack_empty (free_stack o t) refl head place ((placed o t valid).all place row e)
 
 -- ---- the count ----
-
-pub rows-length : (l : Limits) (i n : ℕ) → length (rows_from l i n) ≡ n
-rows-length l i zero = refl
-rows-length l i (suc n) = let rest = rows-length l (i + 1) n in omega arith
 
 pub no_free_row : NoFreeRowMeansUsedUp
 no_free_row o t caller valid is_caller head none =

@@ -4,7 +4,7 @@ use Rattle.index_rule.specs.declared.rows.PrivateRow.{PrivateRow}
 use Rattle.index_rule.specs.Buffers.{Links, MayInsertRow}
 use Rattle.index_rule.specs.Hands.{known, opening_of}
 use Rattle.index_rule.specs.OwnRows.{place_of_private}
-use Rattle.row_arena.proofs.HeldRows.{held_below}
+use Rattle.index_rule.proofs.HeldRows.{held_below}
 use Rattle.delta_buffer.proofs.Linking.{answer_search, answer_steps, answer_tells, fits_each}
 use Rattle.delta_buffer.proofs.Linking.{may_insert_row, row_ahead_of, stores_link}
 use Rattle.delta_buffer.proofs.inserting.insert.Goals as goal

@@ -7,7 +7,7 @@ use Rattle.index_rule.specs.declared.rows.RetiredRow.{RetiredRow}
 use Rattle.index_rule.specs.Hands.{Makes, known, opening_of}
 use Rattle.index_rule.specs.OwnRows.{place_of_retired}
 use Rattle.index_rule.proofs.Stepping.{still_holds, still_unobserved}
-use Rattle.row_arena.proofs.HeldRows.{held_below, stores_part}
+use Rattle.index_rule.proofs.HeldRows.{held_below, stores_part}
 use Rattle.row_arena.proofs.giving.give.Goals as goal
 
 pub link_word-link-requires : goal.link_word-link-requires

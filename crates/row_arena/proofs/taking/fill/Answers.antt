@@ -10,7 +10,7 @@ use Rattle.index_rule.specs.Hands.{Makes, opening_of}
 use Rattle.index_rule.specs.OwnRows.{place_of_private}
 use Rattle.index_rule.proofs.Stepping.{still_holds, still_may_leave, still_reading}
 use Rattle.row_arena.specs.Taking.{first_state}
-use Rattle.row_arena.proofs.HeldRows.{held_below, stored_word, stores_part, other_word}
+use Rattle.index_rule.proofs.HeldRows.{held_below, stored_word, stores_part, other_word}
 use Rattle.row_arena.proofs.taking.fill.Goals as goal
 
 pub value_word-requires : goal.value_word-requires

@@ -1,9 +1,12 @@
--- A row that a hand holds: its place is small, and a store changes the one word that it names.
+-- A row that a hand holds: its place is small, and a store changes the one word that it names. And how
+-- many rows there are.
 use Rattle.std.proofs.Common.{◌≡◌, ◌≢◌, ℕ, ◌-◌, ◌<◌, ◌^◌, Bool, cond, true, false}
-use Rattle.std.proofs.Common.{refl, ap, ◌∙◌, subst, ne_eqb, arith}
+use Rattle.std.proofs.Common.{length, zero, suc, ◌+◌, refl, ap, ◌∙◌, subst, ne_eqb, arith}
 use Rattle.std.specs.Prelude.{◌==◌, ◌&&◌}
 use Rattle.word_layout.specs.declared.places.Part.{Part}
-use Rattle.word_layout.specs.Places.{part_address, part_at, part_of, part_offset, same_part}
+use Rattle.word_layout.specs.declared.limits.Limits.{Limits}
+use Rattle.word_layout.specs.Places.{part_address, part_at, part_of, part_offset, rows_from}
+use Rattle.word_layout.specs.Places.{same_part}
 use Rattle.word_layout.specs.Words.{PlaceWord}
 use Rattle.word_layout.proofs.WordNames.{part_at-part_offset}
 use Rattle.word_layout.proofs.SameWords.{same_word-refl}
@@ -68,3 +71,10 @@ stores_part b h k held place address part found value same at equal m =
     in
     subst (λ (z : ℕ × Part × ℕ). Makes b h (StorePrivate z.0 z.1 z.2) k)
     (λ i. (same i, named i, equal i)) m
+
+-- ---- all rows ----
+
+-- the list of so many rows has that length
+pub rows-length : (l : Limits) (i n : ℕ) → length (rows_from l i n) ≡ n
+rows-length l i zero = refl
+rows-length l i (suc n) = let rest = rows-length l (i + 1) n in omega arith
