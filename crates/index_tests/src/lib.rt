@@ -33,6 +33,8 @@ mod records;
 #[cfg(test)]
 mod records_at_once;
 #[cfg(test)]
+mod texts;
+#[cfg(test)]
 mod values_in_turn;
 #[cfg(test)]
 mod waiters;

@@ -1,7 +1,6 @@
 //! Passes tell each other, and limits are refused.
 use crate::boards::SMALL;
 use crate::indexes::opened_for_two;
-use std::test::Fail;
 use word_layout::{LAST_VERSION, Limits};
 use xindex_core::{Index, OpenError, Tried};
 
@@ -34,17 +33,4 @@ fn the_first_broken_limit_is_told(rt: HostRuntime) {
     };
     let (index, _passes, _keeper) = opened_for_two(&rt, rt.alloc(), limits);
     assert_eq!(rt; index.limits(), limits);
-}
-
-#[test]
-fn an_error_of_opening_shows_its_cause(rt: HostRuntime) -> Result<(), Fail> {
-    let texts = [
-        (OpenError::BadLimit { number: 2 }, "bad limit 2"),
-        (OpenError::Memory, "out of memory"),
-    ];
-    for (error, text) in texts {
-        let shown = format!(in rt.alloc(); "{error}")?;
-        assert_eq!(rt; shown.as_str(), text);
-    }
-    Ok(())
 }
