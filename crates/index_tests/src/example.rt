@@ -49,7 +49,10 @@ fn what_a_second_thread_put_is_known_once_it_was_told(rt: HostRuntime) {
             ensures { IsPassOf shared.entry.now result.0 }
         { put(shared, second, 2, 20) },
     );
-    assert_eq!(&rt; (put_first, put_second), (Tried::Done(None), Tried::Done(None)));
+    assert_eq!(&rt;
+        (put_first, put_second),
+        (Tried::Done(None), Tried::Done(None))
+    );
     let note = second.tell(&index);
     first.heed(&index, note);
     assert_eq!(&rt; first.try_get(&index, 2), Tried::Done(Some(20)));
