@@ -4,7 +4,6 @@ use Rattle.std.specs.List.{AllByRecursion, AllZip, filter}
 use Rattle.std.proofs.lemmas.Bool.{cases_eq}
 use Rattle.std.proofs.lemmas.List.{append-nil, length_push}
 use Rattle.std.proofs.lemmas.List.Elements.{filter-append}
-use Rattle.wire_commands.specs.declared.request.Request.{Request}
 use Rattle.wire_commands.specs.Stream.{HasNoNewline}
 use Rattle.wire_commands.proofs.Spans.{push_has, same_span, second_part_has}
 use Rattle.trace_text.specs.declared.lines.Line.{Line}

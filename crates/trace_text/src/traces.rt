@@ -119,9 +119,9 @@ mod tests {
             Line::Phase,
             Line::Call(Request::Get { key: 2 }),
         ];
-        let lines = read_trace(rt.alloc(), TWO_PHASES, 2).unwrap();
+        let lines = read_trace(rt.alloc(), TWO_PHASES, 2).expect(&rt, "memory");
         assert_eq!(rt; &lines[..], want.as_slice());
-        let none = read_trace(rt.alloc(), b"", 1).unwrap();
+        let none = read_trace(rt.alloc(), b"", 1).expect(&rt, "memory");
         assert!(rt; none.is_empty());
     }
 

@@ -1,6 +1,4 @@
-use Rattle.std.proofs.Common.{◌≡◌, ℕ, ◌≤◌, arith, sym}
-use Rattle.std.specs.Option.{SomeIff}
-use Rattle.trace_text.specs.Lines.{NamesCaller}
+use Rattle.std.proofs.Common.{arith}
 use Rattle.trace_text.proofs.LineLaws.{no_word_no_caller, same_caller_word}
 use Rattle.trace_text.proofs.lines.caller_of.Goals as goal
 

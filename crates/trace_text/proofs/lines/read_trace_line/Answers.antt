@@ -1,6 +1,5 @@
-use Rattle.std.proofs.Common.{◌≡◌, ◌≢◌, ap, sym, ◌∙◌, subst}
+use Rattle.std.proofs.Common.{subst}
 use Rattle.wire_commands.specs.Grammar.{Reads}
-use Rattle.wire_commands.specs.declared.request.Reason.{Reason}
 use Rattle.wire_commands.specs.declared.request.Reason.TheVariants.{Word}
 use Rattle.wire_commands.specs.declared.request.Request.TheVariants.{Bad, Quit}
 use Rattle.trace_text.specs.Lines.{IsSkipped}
