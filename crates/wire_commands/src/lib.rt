@@ -19,6 +19,7 @@ pub use laws::{
     no_line_reads_as_two_requests, no_stream_asks_in_two_ways,
 };
 pub use numbers::{is_number, value_within};
-pub use reading::read_line;
+pub use reading::{read_line, without_return};
 pub use reply::{Reply, write_number};
 pub use request::{Reason, Request, Value};
+pub use words::{first_word, has_no_word, only_word};

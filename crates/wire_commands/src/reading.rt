@@ -28,7 +28,7 @@ pub fn read_line(line: &[u8]) -> Request
 }
 
 /// The line without one carriage return at its end.
-fn without_return(line: &[u8]) -> &[u8]
+pub fn without_return(line: &[u8]) -> &[u8]
     ensures { DropsReturn line.now result.now }
 {
     match line {

@@ -1,0 +1,4 @@
+pub mod LineLaws
+pub mod TraceLaws
+pub mod TextLaws
+pub mod TranscriptLaws

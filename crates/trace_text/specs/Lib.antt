@@ -1,0 +1,5 @@
+pub mod Lines
+pub mod Traces
+pub mod Text
+pub mod Transcripts
+pub mod Laws

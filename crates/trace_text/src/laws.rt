@@ -1,0 +1,14 @@
+//! What holds of all texts and all lines.
+//!
+//! The functions do nothing: each has a law for its contract, and so the check proves the law.
+ghost use Rattle.trace_text.specs.Laws.{TextsHaveLines, LinesSayOneThing};
+
+/// A text is cut into lines in one way.
+pub fn each_text_has_its_lines()
+    ensures { TextsHaveLines }
+{}
+
+/// What a line says is settled by its bytes and the number of callers.
+pub fn no_line_says_two_things()
+    ensures { LinesSayOneThing }
+{}

@@ -1,0 +1,16 @@
+//! Traces, which say what callers ask in each phase, and the transcripts of their replies.
+//!
+//! A trace is good or has a first bad line; nothing in it is asked before all of it is read.
+#![tactic(auto)]
+
+mod appending;
+mod laws;
+mod lines;
+mod traces;
+mod transcripts;
+
+pub use appending::{append_number, append_pair, append_reply};
+pub use laws::{each_text_has_its_lines, no_line_says_two_things};
+pub use lines::{Line, read_trace_line};
+pub use traces::{TraceError, read_trace};
+pub use transcripts::{append_caller, append_rows};

@@ -1,0 +1,168 @@
+//! What one line of a trace says.
+//!
+//! A line is skipped, or a mark that says whose calls follow, or a call. Every other line is bad.
+ghost use Rattle.std.specs.Prelude.{◌≡◌, ◌≢◌, ◌↔◌, ℕ, IsTrue, MatchOption};
+ghost use Rattle.trace_text.specs.Lines.{IsSkipped, keyword_of, IsMark, HasCaller, Says};
+
+use wire_commands::{
+    Reason, Request, first_word, has_no_word, is_number, only_word, read_line, value_within,
+    without_return,
+};
+
+/// What a line of a trace says.
+#[derive(Clone, Copy, Debug, PartialEq, Eq)]
+pub enum Line {
+    /// Nothing: the line is a comment or has no word.
+    Skip,
+    /// A phase ends, and the next one begins.
+    Phase,
+    /// The calls of this caller follow.
+    Caller(u32),
+    /// The present caller makes this call.
+    Call(Request),
+}
+
+/// What a line says, which is given without its newline, or `None` where it is bad.
+pub fn read_trace_line(line: &[u8], callers: u32) -> Option<Line>
+    ensures { MatchOption result ((said : Line) → ¬ (Says callers line.now said))
+        (Says callers line.now) }
+{
+    if is_skipped(line) {
+        return Some(Line::Skip);
+    }
+    match read_line(line) {
+        Request::Bad(reason) => match reason {
+            Reason::Word => read_mark(line, callers),
+            _ => None,
+        },
+        Request::Quit => None,
+        call => Some(Line::Call(call)),
+    }
+}
+
+/// Whether the line is a comment or has no word. Such a line may be of any length.
+fn is_skipped(line: &[u8]) -> bool
+    ensures { IsTrue result ↔ IsSkipped line.now }
+{
+    match line {
+        [b'#', ..] => true,
+        _ => has_no_word(without_return(line)),
+    }
+}
+
+/// Reads a line whose first word is no keyword of a request.
+fn read_mark(line: &[u8], callers: u32) -> Option<Line>
+    ensures { MatchOption result ((said : Line) → ¬ (IsMark callers line.now said))
+        (IsMark callers line.now) }
+{
+    let Some((keyword, rest)) = first_word(without_return(line)) else {
+        return None;
+    };
+    let Some(mark) = mark_of(keyword) else {
+        return None;
+    };
+    match mark {
+        Mark::Phase => {
+            if has_no_word(rest) {
+                Some(Line::Phase)
+            } else {
+                None
+            }
+        }
+        Mark::Caller => {
+            let caller = caller_of(rest, callers)?;
+            Some(Line::Caller(caller))
+        }
+    }
+}
+
+/// What a line can mark.
+#[derive(Clone, Copy, Debug, PartialEq, Eq)]
+enum Mark {
+    /// The next phase.
+    Phase,
+    /// The caller of the calls that follow.
+    Caller,
+}
+
+/// The mark whose keyword this is.
+fn mark_of(word: &[u8]) -> Option<Mark>
+    ensures { MatchOption result ((mark : Mark) → word.now ≢ keyword_of mark)
+        (λ mark. word.now ≡ keyword_of mark) }
+{
+    match word {
+        b"phase" => Some(Mark::Phase),
+        b"caller" => Some(Mark::Caller),
+        _ => None,
+    }
+}
+
+/// The caller that a line names in its rest.
+fn caller_of(rest: &[u8], callers: u32) -> Option<u32>
+    ensures { MatchOption result ((caller : ℕ) → ¬ (HasCaller callers rest.now caller))
+        (HasCaller callers rest.now) }
+{
+    let Some(word) = only_word(rest) else {
+        return None;
+    };
+    if !is_number(word) {
+        return None;
+    }
+    let Some(caller) = value_within(word, u64::from(callers)) else {
+        return None;
+    };
+    let caller = caller as u32;
+    if caller < callers { Some(caller) } else { None }
+}
+
+#[cfg(test)]
+mod tests {
+    use super::*;
+
+    #[test]
+    fn a_line_is_skipped_or_a_mark_or_a_call(rt: HostRuntime) {
+        let put = Request::Put { key: 1, value: 2 };
+        let rows: [(&[u8], Line); 12] = [
+            (b"", Line::Skip),
+            (b"\r", Line::Skip),
+            (&[b' '; 100], Line::Skip),
+            (b"#phase", Line::Skip),
+            (&[b'#'; 100], Line::Skip),
+            (b"phase", Line::Phase),
+            (b"\tphase \r", Line::Phase),
+            (b"caller 0", Line::Caller(0)),
+            (b" caller  003", Line::Caller(3)),
+            (b"put 1 2\r", Line::Call(put)),
+            (b"get 7", Line::Call(Request::Get { key: 7 })),
+            (b"remove 7", Line::Call(Request::Remove { key: 7 })),
+        ];
+        for (line, said) in rows {
+            assert_eq!(rt; read_trace_line(line, 4), Some(said), "at {line:?}");
+        }
+    }
+
+    #[test]
+    fn every_other_line_is_bad(rt: HostRuntime) {
+        let mut long = [b' '; 81];
+        long[..5].copy_from_slice(b"phase");
+        let rows: [&[u8]; 13] = [
+            b" #",
+            b"phase 1",
+            b"Phase",
+            b"caller",
+            b"caller 4",
+            b"caller x",
+            b"caller 1 2",
+            b"caller 18446744073709551616",
+            b"quit",
+            b"scan 0 9",
+            b"get x",
+            b"put 1 99999999999999999999",
+            &long,
+        ];
+        for line in rows {
+            assert_eq!(rt; read_trace_line(line, 4), None, "at {line:?}");
+        }
+        assert_eq!(rt; read_trace_line(&long[..80], 4), Some(Line::Phase));
+    }
+}
