@@ -61,16 +61,6 @@ unknown_mark callers whole line word rest dropped begins unknown (Caller caller)
     (first_of_words whole line word rest (name_of mark.Caller) (is.0 ∷ []) dropped begins is.1).0
 unknown_mark callers whole line word rest dropped begins unknown (Call request) = λ is. is
 
--- the keyword alone marks a phase
-pub marks_phase : (callers : ℕ) (whole line word rest : List ℕ) → DropsReturn whole line
-    → BeginsWith line word rest → word ≡ name_of mark.Phase → HasWords rest []
-    → IsMark callers whole Phase
-marks_phase callers whole line word rest dropped begins is none = record {
-  line = line;
-  dropped = dropped;
-  has = (rest, subst (λ w. BeginsWith line w rest) is begins, none);
-}
-
 -- more than the keyword marks no phase
 pub no_phase : (callers : ℕ) (whole line word rest : List ℕ) → DropsReturn whole line
     → BeginsWith line word rest → word ≡ name_of mark.Phase → ¬ (HasWords rest [])
