@@ -86,21 +86,3 @@ impl From<clap::Error> for CommandError {
         }
     }
 }
-
-#[cfg(test)]
-mod tests {
-    use super::*;
-    use std::test::Fail;
-
-    #[test]
-    fn an_error_shows_its_cause(rt: HostRuntime) -> Result<(), Fail> {
-        for (error, text) in [
-            (CommandError::Usage, "bad usage"),
-            (CommandError::Memory, "out of memory"),
-        ] {
-            let shown = format!(in rt.alloc(); "{error}")?;
-            assert_eq!(rt; shown.as_str(), text);
-        }
-        Ok(())
-    }
-}

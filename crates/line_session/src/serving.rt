@@ -156,6 +156,3 @@ fn answer<R: Wait + Copy, A: Answerer, K: Sink>(
         _ => None,
     }
 }
-
-#[cfg(test)]
-mod tests;

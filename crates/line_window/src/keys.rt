@@ -59,6 +59,3 @@ pub fn is_rising(keys: &[u64]) -> bool
     }
     true
 }
-
-#[cfg(test)]
-mod tests;

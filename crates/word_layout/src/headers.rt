@@ -42,23 +42,3 @@ impl HeaderWord {
         }
     }
 }
-
-#[cfg(test)]
-mod tests {
-    use super::*;
-
-    #[test]
-    fn the_words_of_a_header_count_from_its_pivot(rt: HostRuntime) {
-        let words = [
-            HeaderWord::Pivot,
-            HeaderWord::Size,
-            HeaderWord::LineError,
-            HeaderWord::BufferHead,
-            HeaderWord::Phase,
-            HeaderWord::Next,
-            HeaderWord::FirstSpare,
-            HeaderWord::SecondSpare,
-        ];
-        assert_eq!(rt; words.map(|word| word.number()), [0, 1, 2, 3, 4, 5, 6, 7]);
-    }
-}

@@ -160,38 +160,3 @@ impl Layout {
         self.groups_from + group * self.group_words
     }
 }
-
-#[cfg(test)]
-mod tests {
-    use super::*;
-    use crate::headers::HeaderWord;
-
-    #[test]
-    fn a_small_table_has_its_parts_behind_one_another(rt: HostRuntime) {
-        let limits = Limits {
-            callers: 3,
-            records: 2,
-            groups: 2,
-            group_size: 8,
-            slots: 1,
-            due: 1,
-            help: 1,
-            chain: 1,
-            first_version: 0,
-        };
-        let layout = limits.layout();
-        assert!(rt; layout.is_ok());
-        if let Ok(layout) = layout {
-            assert_eq!(rt; layout.words(), 97);
-            assert_eq!(rt; layout.limits(), limits);
-            assert_eq!(rt; (layout.epoch(0), layout.epoch(2)), (2, 4));
-            assert_eq!(rt; (layout.free_head(), layout.root()), (0, 1));
-            assert_eq!(rt; (layout.slot(0, 0), layout.slot_group(0, 0)), (5, 6));
-            assert_eq!(rt; (layout.slot(1, 0), layout.slot_group(1, 0)), (7, 8));
-            let (first, last) = (HeaderWord::Pivot.number(), HeaderWord::SecondSpare.number());
-            assert_eq!(rt; (layout.header(0, first), layout.header(1, last)), (9, 56));
-            assert_eq!(rt; (layout.array(0, 0), layout.array(1, 7)), (17, 85));
-            assert_eq!(rt; (layout.row(0), layout.row(1)), (89, 93));
-        }
-    }
-}

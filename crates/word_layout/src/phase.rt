@@ -48,32 +48,3 @@ impl Phase {
         }
     }
 }
-
-#[cfg(test)]
-mod tests {
-    use super::*;
-
-    #[test]
-    fn each_phase_has_its_word_and_is_read_back(rt: HostRuntime) {
-        let table = [
-            (0, Phase::Open),
-            (1, Phase::Frozen),
-            (2, Phase::Opened { first: 0 }),
-            (6, Phase::Opened { first: 1 }),
-            (262142, Phase::Opened { first: 65535 }),
-        ];
-        for (word, phase) in table {
-            assert_eq!(rt; Phase::read(word), Some(phase), "at {word}");
-            if let Some(read) = Phase::read(word) {
-                assert_eq!(rt; read.word(), word);
-            }
-        }
-    }
-
-    #[test]
-    fn a_word_that_no_phase_has_is_not_read(rt: HostRuntime) {
-        for word in [3, 4, 5, 7, 8, 262146, u64::MAX] {
-            assert_eq!(rt; Phase::read(word), None, "at {word}");
-        }
-    }
-}

@@ -42,16 +42,3 @@ pub fn link_word(place: u32) -> u32
 {
     place + 3
 }
-
-#[cfg(test)]
-mod tests {
-    use super::*;
-
-    #[test]
-    fn the_words_of_a_place_are_behind_its_key(rt: HostRuntime) {
-        assert_eq!(rt;
-            (value_word(89), state_word(89), link_word(89)),
-            (90, 91, 92)
-        );
-    }
-}

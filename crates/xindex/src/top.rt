@@ -181,6 +181,3 @@ fn refuse<K: Sink>(sink: &mut K, line: &[u8], refused: Status) -> Status
         Err(_) => Status::WriteFault,
     }
 }
-
-#[cfg(test)]
-mod tests;

@@ -1,9 +1,12 @@
+//! Sessions over a plain map, from bytes to bytes.
 ghost use Rattle.std.specs.Prelude.{◌≤◌};
 
-use super::*;
-use crate::{BytesSink, BytesSource, CountSink, SureSource};
+use line_session::{
+    BytesSink, BytesSource, CountSink, Ended, Sink, Source, SureSource, Took, serve_one,
+};
 use map_model::PlainMap;
 use std::alloc::Global;
+use std::sync::Wait;
 use std::test::Fail;
 
 const INPUT: &[u8] = b"put 5 50\nget 5\nput 5 51\nremove 5\nget 5\nremove 5";

@@ -1,10 +1,11 @@
 //! Worked sessions, and what stops one.
-use super::*;
-use crate::real::tests::{Unreadable, Unwritable};
-use crate::{StandardInput, StandardOutput};
+use crate::streams::{Unreadable, Unwritable};
 use line_session::{BytesSink, BytesSource};
+use std::alloc::Global;
 use std::io::Read;
+use std::sync::Wait;
 use std::test::Fail;
+use xindex::{StandardInput, StandardOutput, Status, xindex};
 
 const SESSION: &[u8] = b"put 5 50\nget 5\nput 5 51\nremove 5\nget 5\nremove 5\n";
 

@@ -1,14 +1,10 @@
 //! A list that counts its reads, and a search in it.
-
 ghost use Rattle.std.specs.Prelude.{◌≡◌, ℕ, ◌+◌, ◌≤◌};
 ghost use Rattle.std.specs.List.Sorted.{IsStrictlyIncreasing};
 ghost use Rattle.line_window.specs.Line.{line_of};
 ghost use Rattle.line_window.specs.Search.{probes_of};
 
-use super::*;
-use crate::bounds::lower_bound;
-use crate::line::Line;
-use crate::probes::Probes;
+use line_window::{Keys, Line, Probes, is_rising, lower_bound};
 
 /// A list that counts its reads and was made with a number.
 #[derive(Drop)]

@@ -1,0 +1,123 @@
+//! How many words a table has, where its parts are, and which limits make none.
+use std::test::Fail;
+use word_layout::{BadLimit, HeaderWord, Limits};
+
+#[test]
+fn the_standard_limits_make_a_table_of_known_size(rt: HostRuntime) {
+    let words = Limits::standard().layout().map(|layout| layout.words());
+    assert_eq!(rt; words, Ok(527366));
+}
+
+#[test]
+fn the_first_rule_that_is_broken_is_named(rt: HostRuntime) -> Result<(), Fail> {
+    let table = [
+        (1, [("callers", 0)].as_slice()),
+        (1, &[("callers", 65)]),
+        (2, &[("records", 1)]),
+        (2, &[("records", 16777217)]),
+        (3, &[("groups", 1)]),
+        (3, &[("groups", 65537)]),
+        (4, &[("group_size", 7)]),
+        (4, &[("group_size", 1025)]),
+        (5, &[("slots", 0)]),
+        (5, &[("slots", 4097)]),
+        (6, &[("due", 0)]),
+        (6, &[("due", 257)]),
+        (7, &[("help", 0)]),
+        (7, &[("help", 1048577)]),
+        (8, &[("chain", 0)]),
+        (8, &[("chain", 4097)]),
+        (10, &[("groups", 65536), ("group_size", 1024)]),
+        (
+            3,
+            &[("groups", u32::MAX), ("group_size", u32::MAX), ("slots", 0)],
+        ),
+        (2, &[("records", 0), ("due", 0), ("chain", 0)]),
+    ];
+    for (number, changes) in table {
+        let words = changed(changes).layout().map(|layout| layout.words());
+        assert_eq!(rt; words, Err(BadLimit { number }), "{changes:?}");
+    }
+    let shown = format!(in rt.alloc(); "{}", BadLimit { number: 3 })?;
+    assert_eq!(rt; shown.as_str(), "the limits break rule 3");
+    Ok(())
+}
+
+#[test]
+fn limits_at_the_ends_of_their_ranges_are_taken(rt: HostRuntime) {
+    let table = [
+        (527363, ("callers", 1)),
+        (527426, ("callers", 64)),
+        (265230, ("records", 2)),
+        (67374086, ("records", 16777216)),
+        (265238, ("groups", 2)),
+        (526346, ("slots", 1)),
+        (542726, ("slots", 4096)),
+        (527366, ("due", 256)),
+    ];
+    for (words, change) in table {
+        let layout = changed(&[change]).layout();
+        assert_eq!(rt;
+            layout.map(|layout| layout.words()),
+            Ok(words),
+            "{change:?}"
+        );
+    }
+}
+
+#[test]
+fn the_first_version_is_at_most_the_last_one(rt: HostRuntime) {
+    let mut limits = Limits::standard();
+    limits.first_version = 1152921504606846975;
+    assert_eq!(rt; limits.layout().map(|layout| layout.words()), Ok(527366));
+    limits.first_version += 1;
+    let refused = Err(BadLimit { number: 9 });
+    assert_eq!(rt; limits.layout().map(|layout| layout.words()), refused);
+}
+
+// The standard limits, but for these numbers.
+fn changed(changes: &[(&str, u32)]) -> Limits {
+    let mut limits = Limits::standard();
+    for &(field, number) in changes {
+        match field {
+            "callers" => limits.callers = number,
+            "records" => limits.records = number,
+            "groups" => limits.groups = number,
+            "group_size" => limits.group_size = number,
+            "slots" => limits.slots = number,
+            "due" => limits.due = number,
+            "help" => limits.help = number,
+            _ => limits.chain = number,
+        }
+    }
+    limits
+}
+
+#[test]
+fn a_small_table_has_its_parts_behind_one_another(rt: HostRuntime) {
+    let limits = Limits {
+        callers: 3,
+        records: 2,
+        groups: 2,
+        group_size: 8,
+        slots: 1,
+        due: 1,
+        help: 1,
+        chain: 1,
+        first_version: 0,
+    };
+    let layout = limits.layout();
+    assert!(rt; layout.is_ok());
+    if let Ok(layout) = layout {
+        assert_eq!(rt; layout.words(), 97);
+        assert_eq!(rt; layout.limits(), limits);
+        assert_eq!(rt; (layout.epoch(0), layout.epoch(2)), (2, 4));
+        assert_eq!(rt; (layout.free_head(), layout.root()), (0, 1));
+        assert_eq!(rt; (layout.slot(0, 0), layout.slot_group(0, 0)), (5, 6));
+        assert_eq!(rt; (layout.slot(1, 0), layout.slot_group(1, 0)), (7, 8));
+        let (first, last) = (HeaderWord::Pivot.number(), HeaderWord::SecondSpare.number());
+        assert_eq!(rt; (layout.header(0, first), layout.header(1, last)), (9, 56));
+        assert_eq!(rt; (layout.array(0, 0), layout.array(1, 7)), (17, 85));
+        assert_eq!(rt; (layout.row(0), layout.row(1)), (89, 93));
+    }
+}

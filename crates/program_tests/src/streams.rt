@@ -1,0 +1,80 @@
+//! Readers and writers that err, and what the real ends tell of them.
+use line_session::{Gave, Sink, Source, Took};
+use std::io::{Error, ErrorKind, Read, Result, Write};
+use std::test::Fail;
+use xindex::{StandardInput, StandardOutput};
+
+// A reader of which each read errs.
+#[derive(Drop)]
+pub(crate) struct Unreadable;
+
+impl Read for Unreadable {
+    fn read(&mut self, _into: &mut [u8]) -> Result<usize> {
+        Err(Error::from(ErrorKind::Other))
+    }
+}
+
+// A writer that takes nothing, errs at each write, or errs at each flush.
+#[derive(Clone, Copy, Debug, PartialEq, Eq, Drop)]
+pub(crate) enum Unwritable {
+    TakesNothing,
+    ErrsAtWrite,
+    ErrsAtFlush,
+}
+
+impl Write for Unwritable {
+    fn write(&mut self, piece: &[u8]) -> Result<usize> {
+        match self {
+            Unwritable::TakesNothing => Ok(0),
+            Unwritable::ErrsAtWrite => Err(Error::from(ErrorKind::Other)),
+            Unwritable::ErrsAtFlush => Ok(piece.len()),
+        }
+    }
+
+    fn flush(&mut self) -> Result<()> {
+        match self {
+            Unwritable::ErrsAtFlush => Err(Error::from(ErrorKind::Other)),
+            _ => Ok(()),
+        }
+    }
+}
+
+#[test]
+fn a_reader_is_read_to_its_end(rt: HostRuntime) {
+    let mut source = StandardInput::new(b"get 5\n".as_slice());
+    let mut buffer = [0; 4];
+    assert_eq!(rt; source.read(&mut buffer), Took::Bytes(4));
+    assert_eq!(rt; source.read(&mut buffer), Took::Bytes(2));
+    assert_eq!(rt; source.read(&mut buffer), Took::End);
+    assert_eq!(rt; source.faults(), 0);
+}
+
+#[test]
+fn a_read_that_errs_is_no_end(rt: HostRuntime) {
+    let mut source = StandardInput::new(b"get".as_slice().chain(Unreadable));
+    let mut buffer = [0; 4];
+    assert_eq!(rt; source.read(&mut buffer), Took::Bytes(3));
+    assert_eq!(rt; source.read(&mut buffer), Took::Failed);
+    assert_eq!(rt; source.faults(), 1);
+}
+
+#[test]
+fn a_piece_is_written(rt: HostRuntime) -> std::result::Result<(), Fail> {
+    let mut sink = StandardOutput::new(Vec::new(rt.alloc()));
+    assert_eq!(rt; sink.take(b"none\n"), Gave::Bytes(5));
+    assert_eq!(rt; sink.faults(), 0);
+    Ok(())
+}
+
+#[test]
+fn a_write_that_takes_nothing_or_errs_or_is_not_flushed_has_failed(rt: HostRuntime) {
+    for writer in [
+        Unwritable::TakesNothing,
+        Unwritable::ErrsAtWrite,
+        Unwritable::ErrsAtFlush,
+    ] {
+        let mut sink = StandardOutput::new(writer);
+        assert_eq!(rt; sink.take(b"none\n"), Gave::Failed, "{writer:?}");
+        assert_eq!(rt; sink.faults(), 1, "{writer:?}");
+    }
+}
