@@ -11,19 +11,19 @@ use Rattle.machine_chain.specs.Chain.{pivot_of}
 use Rattle.machine_chain.specs.Walks.{AnswersFor, BeginsBefore, slot_pivot}
 
 -- the caller made this load at the earlier execution, and its read section goes on
-abbrev pub Since : ℕ → Execution → Execution → Execution → Type 0
-Since caller loaded newer now = (newer ++ loaded ≡ now) × StaysInside caller newer
+abbrev pub GoesOnFrom : ℕ → Execution → Execution → Execution → Type 0
+GoesOnFrom caller loaded newer now = (newer ++ loaded ≡ now) × StaysInside caller newer
 
 -- by so many next words the caller has come to this group: from the group of a slot whose pivot is
 -- at most the key, and from each group to the next one, whose pivot is at most the key
 abbrev pub HasWalkedTo : Opening → ℕ → ℕ → ℕ → ℕ → Execution → Type 0
 HasWalkedTo o caller k zero group now =
     (side : ℕ) × (i : ℕ) × (t : Execution) × (newer : Execution)
-    × Since caller (event caller (LoadSlotGroup side i group) ∷ t) newer now
+    × GoesOnFrom caller (event caller (LoadSlotGroup side i group) ∷ t) newer now
     × (slot_pivot o side i t ≤ k)
 HasWalkedTo o caller k (suc steps) group now =
     (before : ℕ) × (t : Execution) × (newer : Execution) × HasWalkedTo o caller k steps before t
-    × Since caller (event caller (LoadNext before (group + 1)) ∷ t) newer now
+    × GoesOnFrom caller (event caller (LoadNext before (group + 1)) ∷ t) newer now
     × (pivot_of o group now ≤ k)
 
 -- it ended there: there is no next group, or the next one's pivot is greater than the key
@@ -31,7 +31,7 @@ abbrev pub HasEndedAt : Opening → ℕ → ℕ → ℕ → Execution → Type 0
 HasEndedAt o caller k group now =
     (steps : ℕ) × (found : ℕ) × (t : Execution) × (newer : Execution)
     × HasWalkedTo o caller k steps group t
-    × Since caller (event caller (LoadNext group found) ∷ t) newer now
+    × GoesOnFrom caller (event caller (LoadNext group found) ∷ t) newer now
     × ((found ≡ 0) ⊎ ((next : ℕ) × (found ≡ next + 1) × (k < pivot_of o next now)))
 
 -- ---- the laws, over all executions ----
