@@ -1,5 +1,6 @@
 pub mod Executions
 pub mod Options
+pub mod Ranges
 pub mod OpeningRows
 pub mod Placing
 pub mod Stores

@@ -1,6 +1,7 @@
 -- What the conditions refuse, read off them.
 use Rattle.std.proofs.Common.{◌≡◌, ℕ, Bool, true, sym, ap, ◌∙◌}
 use Rattle.index_machine.specs.Forms.{Locked, live_value}
+use Rattle.index_machine.specs.RefusalLaws.{BeginningsWaitForInstalls}
 use Rattle.index_machine.specs.RefusalLaws.{CopiesHoldTheLock, OpeningWaitsForInserters}
 use Rattle.index_machine.specs.RefusalLaws.{CopyingWaitsForReaders, ClosingWaitsForReaders}
 use Rattle.index_machine.specs.RefusalLaws.{RetiringWaitsForReaders, LinksWhereNoneLives}
@@ -46,3 +47,6 @@ installs_merge o t hand spot first low high may k h p is new live = may.merged k
 
 pub forwards_without_value : ForwardingPlacesHaveNoValue
 forwards_without_value o t place to value e = ap live_value e
+
+pub beginnings_wait : BeginningsWaitForInstalls
+beginnings_wait o t hand group low high first may = may.idle

@@ -2,7 +2,7 @@
 --
 -- Several keepers, each over its own key range, change `IsKeeper` here and add that a key is of the
 -- keeper's range.
-use Rattle.std.specs.Prelude.{◌≡◌, ◌≢◌, ◌⊎◌, ℕ, ◌+◌, ◌<◌, ◌≤◌, Bool, true, false, Some}
+use Rattle.std.specs.Prelude.{◌≡◌, ◌≢◌, ◌⊎◌, ℕ, ◌+◌, ◌<◌, ◌≤◌, Bool, true, Some}
 use Rattle.std.specs.Prelude.{List, [], ◌∷◌, length}
 use Rattle.line_window.specs.Line.{error_of}
 use Rattle.word_layout.specs.declared.headers.HeaderWord.{HeaderWord}
@@ -105,9 +105,8 @@ pub record MayBegin (o : Opening) (t : Execution) (hand group low high first : �
   pub no_target : (a p y j : ℕ) → form o a t ≡ Redirect p y → role o p t ≢ InArray group j
   pub unreached : (b p j : ℕ) → IsCaller o b → reached b p t ≡ true →
       role o p t ≢ InArray group j
-  -- no rebuild is under way that would lose its new group
-  pub apart : (k f : ℕ) → phase (group_of o k t) t ≡ Opened f →
-      (within low k high ≡ false) × (successor k t ≢ Some group)
+  -- no rebuild is under way: none would lose a new group, or the words that lead to it
+  pub idle : (k f : ℕ) → phase (group_of o k t) t ≢ Opened f
   -- what was opened to a rebuild of this name is gone, and no redirect leads there
   pub replaced : AreGone o group t
   pub no_old_target : (a p y g k : ℕ) → form o a t ≡ Redirect p y → phase g t ≡ Opened group →

@@ -1,11 +1,13 @@
 -- What the conditions refuse: for each wrong step of a rebuild or of a caller, the fact that it
 -- lacks.
-use Rattle.std.specs.Prelude.{◌≡◌, ◌⊎◌, ℕ, Bool, true, Some, None}
+use Rattle.std.specs.Prelude.{◌≡◌, ◌≢◌, ◌⊎◌, ℕ, Bool, true, Some, None}
 use Rattle.map_model.specs.declared.entries.Change.{Change}
+use Rattle.word_layout.specs.declared.phase.Phase.TheVariants.{Opened}
 use Rattle.map_model.specs.Map.{key_of}
 use Rattle.index_machine.specs.declared.events.InstallWord.{InstallWord}
 use Rattle.index_machine.specs.declared.events.Action.TheVariants.{Unlock, LinkRow, Retire, PushFree}
-use Rattle.index_machine.specs.declared.events.Action.TheVariants.{StoreOpened, StoreUnusedGroup}
+use Rattle.index_machine.specs.declared.events.Action.TheVariants.{NewGroup, StoreOpened}
+use Rattle.index_machine.specs.declared.events.Action.TheVariants.{StoreUnusedGroup}
 use Rattle.index_machine.specs.declared.events.Action.TheVariants.{Install, Close, StoreDirect}
 use Rattle.index_machine.specs.declared.opening.Opening.{Opening}
 use Rattle.index_machine.specs.Execution.{Execution}
@@ -14,7 +16,8 @@ use Rattle.index_machine.specs.ObservedHeads.{Observes}
 use Rattle.index_machine.specs.Rows.{InArray, InBuffer, role}
 use Rattle.index_machine.specs.Forms.{Locked, Redirect, IsLockedBy, live_value}
 use Rattle.index_machine.specs.Places.{form, IsInGroup}
-use Rattle.index_machine.specs.KeyRanges.{successor}
+use Rattle.index_machine.specs.Groups.{phase}
+use Rattle.index_machine.specs.KeyRanges.{group_of, successor}
 use Rattle.index_machine.specs.Openings.{within}
 use Rattle.index_machine.specs.LivePlaces.{live_place}
 use Rattle.index_machine.specs.Reaching.{SeesSlot, reached}
@@ -32,6 +35,13 @@ abbrev pub OpeningWaitsForInserters : Type 0
 OpeningWaitsForInserters =
     (o : Opening) (t : Execution) (hand group first : ℕ) →
     Allowed o t hand (StoreOpened group first) → IsClosedToInserts o group t
+
+-- a group is begun anew only while no group of the chain is opened to a rebuild
+abbrev pub BeginningsWaitForInstalls : Type 0
+BeginningsWaitForInstalls =
+    (o : Opening) (t : Execution) (hand group low high first : ℕ) →
+    Allowed o t hand (NewGroup group low high first) → (k old : ℕ) →
+    phase (group_of o k t) t ≢ Opened old
 
 -- a new place is made direct only once nobody walks an old group of the rebuild
 abbrev pub CopyingWaitsForReaders : Type 0

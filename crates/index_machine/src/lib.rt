@@ -18,8 +18,8 @@ pub use laws::{
 };
 pub use opening::Opening;
 pub use refusals::{
-    closing_waits_for_readers, copies_hold_the_lock, copying_waits_for_readers,
-    forwarding_places_have_no_value, installs_merge_live_places, links_where_none_lives,
-    opening_waits_for_inserters, pushes_wait_for_readers, retiring_waits_for_readers,
-    revives_in_buffers_alone, slots_wait_for_readers,
+    beginnings_wait_for_installs, closing_waits_for_readers, copies_hold_the_lock,
+    copying_waits_for_readers, forwarding_places_have_no_value, installs_merge_live_places,
+    links_where_none_lives, opening_waits_for_inserters, pushes_wait_for_readers,
+    retiring_waits_for_readers, revives_in_buffers_alone, slots_wait_for_readers,
 };

@@ -1,4 +1,5 @@
 //! What the conditions refuse. Each function is a law and does nothing.
+ghost use Rattle.index_machine.specs.RefusalLaws.{BeginningsWaitForInstalls};
 ghost use Rattle.index_machine.specs.RefusalLaws.{ClosingWaitsForReaders};
 ghost use Rattle.index_machine.specs.RefusalLaws.{CopiesHoldTheLock};
 ghost use Rattle.index_machine.specs.RefusalLaws.{CopyingWaitsForReaders};
@@ -19,6 +20,11 @@ pub fn copies_hold_the_lock()
 /// A group is opened to a rebuild only once nobody may insert into it.
 pub fn opening_waits_for_inserters()
     ensures { OpeningWaitsForInserters }
+{}
+
+/// A group is begun anew only while no rebuild is under way.
+pub fn beginnings_wait_for_installs()
+    ensures { BeginningsWaitForInstalls }
 {}
 
 /// A record is copied only once nobody walks an old group of the rebuild.

@@ -7,7 +7,7 @@ use Rattle.index_machine.proofs.Executions.{choice-other}
 use Rattle.index_machine.proofs.OpeningRows.{opening_role-buffer}
 use Rattle.index_machine.specs.Conditions.{Allowed, Valid}
 use Rattle.index_machine.specs.Execution.{Execution, event}
-use Rattle.index_machine.specs.Groups.{phase, unless_named}
+use Rattle.index_machine.specs.Groups.{phase}
 use Rattle.index_machine.specs.KeyRanges.{group_of, or_else, predecessor, remembered, successor}
 use Rattle.index_machine.specs.KeyRanges.{unless_opened}
 use Rattle.index_machine.specs.Openings.{within}
@@ -24,7 +24,7 @@ use Rattle.machine_buffers.proofs.OutOfUse.{out_on, replaced_out}
 use Rattle.machine_buffers.specs.Groups.{Begins, IsKeyOf, IsOutOfUse}
 use Rattle.machine_buffers.specs.Walks.{RowsHaveKeysOfTheirGroup, RowsOfTheChainAreInRange}
 use Rattle.machine_readers.proofs.InstalledRedirects.{remembered_back}
-use Rattle.index_machine.proofs.Options.{none_some, some_is, still_named}
+use Rattle.index_machine.proofs.Options.{none_some, some_is}
 use Rattle.machine_readers.proofs.AwaitedGroups.{belongs_on}
 use Rattle.machine_readers.proofs.Roles.{IsLinkOf, row_back}
 use Rattle.machine_readers.proofs.StandingCallers.{groups_before_are_opened}
@@ -86,10 +86,7 @@ kept_new o t b n low high i g k valid may other of = ⊎_elim
     (λ (x : IsBufferFor o k g t). ⊎_elim
     (λ (y : group_of o k t ≡ g). inl (inl (inl y)))
     (λ (y : (f : ℕ) × (phase (group_of o k t) t ≡ Opened f) × (successor k t ≡ Some g)).
-    let w = may.apart k y.0 y.1 in
-    inl (inl (belongs_on o t b (NewGroup n low high i) g k may y.2
-    (ap (λ (z : Bool). cond z (Some n) (unless_named n (successor k t))) w.0
-    ∙ still_named n (successor k t) g (λ z. w.1 (y.2 ∙ ap (λ (j : ℕ). Some j) z)) y.2) x))) x)
+    absurd (may.idle k y.0 y.1)) x)
     (λ (x : predecessor o k t ≡ Some g).
     let p = groups_before_are_opened o t valid k g x in
     dite (ℕ_discrete p.0 n)

@@ -12,7 +12,7 @@ use Rattle.index_machine.specs.Execution.{Execution, event}
 use Rattle.index_machine.specs.Forms.{Copied, Form, Locked, Moved, Redirect, Unlocked, copied_away}
 use Rattle.index_machine.specs.Forms.{live_value, made_direct, put_value, unless, with_lock}
 use Rattle.index_machine.specs.Forms.{with_value, without_lock}
-use Rattle.index_machine.specs.Groups.{name_used_again, phase, unless_named}
+use Rattle.index_machine.specs.Groups.{phase}
 use Rattle.index_machine.specs.KeyRanges.{group_of, or_else, successor}
 use Rattle.index_machine.specs.LivePlaces.{IsPlaceOf, live_place}
 use Rattle.index_machine.specs.Openings.{within}
@@ -31,7 +31,7 @@ use Rattle.index_machine.specs.declared.events.Action.TheVariants.{Unlock}
 use Rattle.index_machine.specs.declared.events.InstallWord.{InstallWord}
 use Rattle.index_machine.specs.declared.opening.Opening.{Opening}
 use Rattle.machine_places.proofs.Agreement.{emptied_keeps, map_agrees}
-use Rattle.index_machine.proofs.Options.{none_some, some_is, still_named}
+use Rattle.index_machine.proofs.Options.{none_some, some_is}
 use Rattle.machine_places.proofs.LiveValues.{only_live}
 use Rattle.machine_places.specs.Agreement.{HasLiveValue, LivePlacesStand, MapAgrees, OnlyLive}
 use Rattle.map_model.specs.Map.{key_of}
@@ -312,22 +312,9 @@ module _ (o : Opening) (t : Execution) (b : ℕ) (a : MapAgrees o t) (old : Live
       let same : group_of o k t ≡ g = cc in may.gone.unowned k same) s))
       (λ q p y s f _. (y, f))
       (λ h s. ⊎_elim (λ (z : group_of o k t ≡ h). inl z)
-      (λ (z : (e : ℕ) × (phase (group_of o k t) t ≡ Opened e) × (successor k t ≡ Some h)). let w =
-      may.apart k z.0 z.1 in
-      inr (
-        z.0,
-        choice-other g (group_of o k t) Open (name_used_again g (phase (group_of o k t) t))
-            (λ i. may.gone.unowned k (sym i)) ∙ kept k z.0 z.1,
-        ap
-            (λ (i : Bool). cond i (Some g) (unless_named g (successor k t))) w.0
-            ∙ still_named g (successor k t) h (λ i. w.1 (z.2 ∙ ap (λ (y : ℕ). Some y) i)) z.2,
-      )) s)
+      (λ (z : (e : ℕ) × (phase (group_of o k t) t ≡ Opened e) × (successor k t ≡ Some h)).
+      absurd (may.idle k z.0 z.1)) s)
       e (old k p e)
-    where
-      kept : (k f : ℕ) → phase (group_of o k t) t ≡ Opened f →
-          name_used_again g (phase (group_of o k t) t) ≡ Opened f
-      kept k f z = ap (name_used_again g) z ∙ choice-other f g Open (Opened f)
-          (λ i. (may.replaced (group_of o k t) (z ∙ ap (λ (y : ℕ). Opened y) i)).unowned k refl)
 
   live_places_stand_step : (one : OnlyLive o t) (d : Action) → Allowed o t b d →
       LivePlacesStand o (event b d ∷ t)

@@ -19,10 +19,10 @@ use Rattle.index_machine.specs.declared.events.Action.TheVariants.{NewGroup, Sto
 use Rattle.index_machine.specs.declared.events.Action.TheVariants.{StoreRedirect, Thaw}
 use Rattle.index_machine.specs.declared.events.InstallWord.{InstallWord}
 use Rattle.index_machine.specs.declared.opening.Opening.{Opening}
-use Rattle.machine_barriers.proofs.OpenedGroups.{begun_back, frozen_not, made_still, open_not}
+use Rattle.machine_barriers.proofs.OpenedGroups.{begun_back, frozen_not, open_not}
 use Rattle.machine_barriers.proofs.OpenedGroups.{opened_back, opened_is}
 use Rattle.machine_barriers.proofs.Reaches.{may_as}
-use Rattle.index_machine.proofs.Options.{named_before, none_some, some_is, still_named}
+use Rattle.index_machine.proofs.Options.{named_before, none_some, some_is}
 use Rattle.machine_readers.proofs.FormKinds.{Direct, Forward, kind, linked_kind, redirect_kind}
 use Rattle.machine_readers.proofs.Redirects.{phase_stays}
 use Rattle.machine_readers.proofs.Roles.{IsLinkOf, array_back, row_back}
@@ -147,15 +147,7 @@ await_new : (o : Opening) (t : Execution) (b g low high i : ℕ) →
     NewGroupsAwait o (event b (NewGroup g low high i) ∷ t)
 await_new o t b g low high i may old k f e =
     let at = begun_back g (group_of o k t) (phase (group_of o k t) t) f e in
-    let m = old k f at.2 in
-    let apart = may.apart k f at.2 in
-    let other : m.0 ≢ g = λ z. apart.1 (m.1 ∙ ap (λ (y : ℕ). Some y) z) in (
-      m.0,
-      ap (λ (y : Bool). cond y (Some g) (unless_named g (successor k t))) apart.0
-          ∙ still_named g (successor k t) m.0 other m.1,
-      made_still g m.0 (Some i) (rebuild m.0 t) f (λ z. other (sym z)) at.1 m.2,
-      λ j u. m.3 j (begun_back g m.0 (phase m.0 t) j u).2,
-    )
+    absurd (may.idle k f at.2)
 
 await_install : (o : Opening) (t : Execution) (b : ℕ) (spot : InstallWord)
     (lead low high : ℕ) → Allowed o t b (Install spot lead low high) → NewGroupsAwait o t →

@@ -5,7 +5,7 @@ use Rattle.std.proofs.Common.{false, [], ◌∷◌, ◌++◌, cond, refl, sym, a
 use Rattle.index_machine.specs.Conditions.{Allowed, Valid}
 use Rattle.index_machine.specs.Execution.{Execution, event, own}
 use Rattle.index_machine.specs.Forms.{Redirect, is_removed, live_value}
-use Rattle.index_machine.specs.Groups.{phase, rebuild, unless_named}
+use Rattle.index_machine.specs.Groups.{phase, rebuild}
 use Rattle.index_machine.specs.KeyRanges.{group_of, or_else, successor}
 use Rattle.index_machine.specs.LivePlaces.{IsPlaceOf, live_place, value_in_map}
 use Rattle.index_machine.specs.Openings.{within}
@@ -22,7 +22,7 @@ use Rattle.index_machine.specs.declared.opening.Opening.{Opening}
 use Rattle.machine_barriers.proofs.OpenedGroups.{made_still, opened_groups_hold, seen_named}
 use Rattle.machine_barriers.proofs.Reaches.{may_as}
 use Rattle.machine_places.proofs.Agreement.{map_agrees}
-use Rattle.index_machine.proofs.Options.{none_some, not_so, some_is, still_named}
+use Rattle.index_machine.proofs.Options.{none_some, not_so, some_is}
 use Rattle.machine_places.proofs.LivePlaces.{live_place-lives, live_places_stand}
 use Rattle.machine_places.proofs.LiveValues.{only_live}
 use Rattle.machine_places.specs.Agreement.{HasLiveValue, LivePlacesStand, MapAgrees, OnlyLive}
@@ -202,14 +202,7 @@ module _ (o : Opening) (starts : Starts o) where
       begun : (j low high i : ℕ) → Allowed o t b (NewGroup j low high i) →
           (group_of o k t ≡ g) × (phase g t ≡ Opened f) × (successor k t ≡ Some h) →
           IsBehind o (event b (NewGroup j low high i) ∷ t) g f h k
-      begun j low high i may z = let w = may.apart k f (ap (λ (y : ℕ). phase y t) z.0 ∙ z.1) in
-          inl (
-            z.0,
-            opened_step o t b (NewGroup j low high i) c g f may is s z.1,
-            ap
-                (λ (y : Bool). cond y (Some j) (unless_named j (successor k t))) w.0
-                ∙ still_named j (successor k t) h (λ y. w.1 (z.2 ∙ ap (λ (i : ℕ). Some i) y)) z.2,
-          )
+      begun j low high i may z = absurd (may.idle k f (ap (λ (y : ℕ). phase y t) z.0 ∙ z.1))
 
       first : (d : Action) → Allowed o t b d →
           (group_of o k t ≡ g) × (phase g t ≡ Opened f) × (successor k t ≡ Some h) →

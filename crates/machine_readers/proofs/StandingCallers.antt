@@ -5,7 +5,7 @@ use Rattle.std.proofs.Common.{false, [], ◌∷◌, ◌++◌, cond, refl, sym, a
 use Rattle.index_machine.proofs.Executions.{choice-other}
 use Rattle.index_machine.specs.Conditions.{Allowed, Valid}
 use Rattle.index_machine.specs.Execution.{Execution, event}
-use Rattle.index_machine.specs.Groups.{phase, rebuild, unless_named}
+use Rattle.index_machine.specs.Groups.{phase, rebuild}
 use Rattle.index_machine.specs.KeyRanges.{group_of, or_else, predecessor, remembered, successor}
 use Rattle.index_machine.specs.KeyRanges.{unless_opened}
 use Rattle.index_machine.specs.Openings.{within}
@@ -18,7 +18,7 @@ use Rattle.index_machine.specs.declared.events.Action.TheVariants.{Install, NewG
 use Rattle.index_machine.specs.declared.events.InstallWord.{InstallWord}
 use Rattle.index_machine.specs.declared.opening.Opening.{Opening}
 use Rattle.machine_barriers.proofs.OpenedGroups.{made_still, opened_groups_hold}
-use Rattle.index_machine.proofs.Options.{none_some, some_is, still_named}
+use Rattle.index_machine.proofs.Options.{none_some, some_is}
 use Rattle.machine_readers.proofs.AwaitedGroups.{belongs_on}
 use Rattle.machine_readers.proofs.CopiedPlaces.{copied_keys_have_left}
 use Rattle.machine_readers.proofs.FormKinds.{Away, kind}
@@ -152,10 +152,7 @@ of_key_new o t b n low high i c g k valid may is s of = ⊎_elim
     (λ (x : IsBufferFor o k g t). ⊎_elim
     (λ (y : group_of o k t ≡ g). inl (inl y))
     (λ (y : (f : ℕ) × (phase (group_of o k t) t ≡ Opened f) × (successor k t ≡ Some g)).
-    let w = may.apart k y.0 y.1 in
-    inl (belongs_on o t b (NewGroup n low high i) g k may y.2
-    (ap (λ (z : Bool). cond z (Some n) (unless_named n (successor k t))) w.0
-    ∙ still_named n (successor k t) g (λ z. w.1 (y.2 ∙ ap (λ (j : ℕ). Some j) z)) y.2) x)) x)
+    absurd (may.idle k y.0 y.1)) x)
     (λ (x : predecessor o k t ≡ Some g).
     let p = groups_before_are_opened o t valid k g x in
     let other : g ≢ n =

@@ -8,7 +8,7 @@ use Rattle.index_machine.specs.Conditions.{Allowed, Valid}
 use Rattle.index_machine.specs.Execution.{Execution, event}
 use Rattle.index_machine.specs.Forms.{Blank, Copied, Form, Locked, Moved, Redirect, Unlocked}
 use Rattle.index_machine.specs.Forms.{copied_away, made_direct}
-use Rattle.index_machine.specs.Groups.{phase, unless_named}
+use Rattle.index_machine.specs.Groups.{phase}
 use Rattle.index_machine.specs.KeyRanges.{group_of, or_else, successor}
 use Rattle.index_machine.specs.Openings.{within}
 use Rattle.index_machine.proofs.OpeningRows.{opening_form-redirect}
@@ -21,7 +21,7 @@ use Rattle.index_machine.specs.declared.events.InstallWord.{InstallWord}
 use Rattle.index_machine.specs.declared.opening.Opening.{Opening}
 use Rattle.machine_barriers.proofs.OpenedGroups.{open_not}
 use Rattle.machine_barriers.proofs.Reaches.{may_as}
-use Rattle.index_machine.proofs.Options.{some_is, still_named}
+use Rattle.index_machine.proofs.Options.{some_is}
 use Rattle.machine_readers.proofs.CopiedPlaces.{CopiedKeysHaveLeft, PlacesAreFilled}
 use Rattle.machine_readers.proofs.CopiedPlaces.{copied_keys_have_left, one_group}
 use Rattle.machine_readers.proofs.CopiedPlaces.{places_are_filled}
@@ -98,10 +98,7 @@ redirect_awaits o t b d a h k p z may leads old s e there = go d may here
     go (Install spot lead low high) may here =
         installed spot lead low high may here (within low k high) refl
     go (NewGroup n low high f) may here =
-        let w = may.apart k place.1 (ap (λ (i : ℕ). phase i t) (sym here) ∙ place.2) in
-        ap (λ (i : Bool). cond i (Some n) (unless_named n (successor k t))) w.0
-        ∙ still_named n (successor k t) h
-        (λ i. w.1 (was here ∙ ap (λ (y : ℕ). Some y) i)) (was here)
+        absurd (may.idle k place.1 (ap (λ (i : ℕ). phase i t) (sym here) ∙ place.2))
     go d may here = was here
 
 await_step : (o : Opening) (t : Execution) (b : ℕ) (d : Action) → Allowed o t b d →

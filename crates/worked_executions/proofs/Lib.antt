@@ -1,7 +1,10 @@
-pub mod Ranges
+pub mod Equations
 pub mod SmallForms
 pub mod SmallTable
 pub mod OpenedWitness
 pub mod Witness
 pub mod FourGroups
+pub mod TwoNewGroups
+pub mod SplitInTwo
 pub mod NameUsedAgain
+pub mod BegunMeanwhile

@@ -1,26 +1,23 @@
 -- A rebuild whose name is used again is valid while another group of the old rebuild of this name
 -- is still in the chain.
-use Rattle.std.proofs.Common.{◌≡◌, ◌≢◌, ℕ, ◌+◌, ◌<◌, ◌≤◌, inl, inr, ⊎_elim, Some}
-use Rattle.std.proofs.Common.{None, Bool, true, false, [], cond, refl, sym, ◌∙◌, subst}
-use Rattle.std.proofs.Common.{arith, nat_lt, ◌⊎◌}
-use Rattle.worked_executions.proofs.Ranges.{Same, SameOption}
+use Rattle.std.proofs.Common.{◌≡◌, ℕ, ◌+◌, ◌<◌, ◌≤◌, inl, inr, ⊎_elim, Some}
+use Rattle.std.proofs.Common.{Bool, true, false, refl, sym, ◌∙◌, subst}
+use Rattle.std.proofs.Common.{arith, nat_lt}
+use Rattle.worked_executions.proofs.Equations.{Same, SameOption}
 use Rattle.std.proofs.lemmas.Bool.{ltb-false, ltb-true}
 use mathlib.Core.Logic.{dite}
 use native.Mathlib.Decide.{ℕ_discrete}
 use Rattle.index_machine.proofs.Executions.{choice-other}
 use Rattle.index_machine.specs.Conditions.{Valid}
-use Rattle.index_machine.specs.Execution.{Execution}
 use Rattle.index_machine.specs.Groups.{phase, rebuild, unless_named}
 use Rattle.index_machine.specs.KeyRanges.{group_of, successor}
 use Rattle.index_machine.specs.Openings.{greatest_key, within}
 use Rattle.index_machine.specs.Permissions.{IsGone}
-use Rattle.index_machine.specs.RebuildConditions.{AreChained, HasNewGroup, IsBehindFirst}
+use Rattle.index_machine.specs.RebuildConditions.{HasNewGroup, IsBehindFirst}
 use Rattle.index_machine.specs.RebuildConditions.{IsNextWord, IsSettled, IsSized, MayBegin}
 use Rattle.index_machine.specs.RebuildConditions.{MayFillHeader, MayInstall, MayOpen}
-use Rattle.index_machine.specs.Words.{limits, word}
-use Rattle.worked_executions.proofs.Ranges.{in_range, range_in}
-use Rattle.index_machine.specs.Rows.{InArray, role}
-use Rattle.word_layout.specs.Addresses.{array_address}
+use Rattle.index_machine.specs.Words.{word}
+use Rattle.index_machine.proofs.Ranges.{in_range, range_in}
 use Rattle.word_layout.specs.Words.{Header}
 use Rattle.index_machine.specs.declared.events.InstallWord.TheVariants.{FirstSlot}
 use Rattle.machine_barriers.proofs.OpenedGroups.{open_not}
@@ -28,285 +25,19 @@ use Rattle.worked_executions.specs.NameUsedAgain.{NamesAreUsedAgain}
 use Rattle.index_machine.proofs.Options.{named_before, none_some, not_so, some_is}
 use Rattle.word_layout.specs.declared.headers.HeaderWord.TheVariants as header
 use Rattle.word_layout.specs.declared.phase.Phase.TheVariants.{Open, Opened}
-use Rattle.worked_executions.proofs.FourGroups.{o, frozen_0, step_1, step_2}
-use Rattle.worked_executions.proofs.FourGroups.{step_3, step_4, step_5, frozen_1, step_6, step_7}
+use Rattle.worked_executions.proofs.FourGroups.{o}
+use Rattle.worked_executions.proofs.FourGroups.{step_6, step_7}
 use Rattle.worked_executions.proofs.FourGroups.{step_8, frozen_2, step_10, step_11, step_12}
-use Rattle.worked_executions.proofs.FourGroups.{is_low, is_high, new_1, group_1, new_2, group_2}
-use Rattle.worked_executions.proofs.FourGroups.{new_3, at_key, not_1_in_0, not_2_in_0}
+use Rattle.worked_executions.proofs.FourGroups.{is_low, group_1, new_2, group_2}
+use Rattle.worked_executions.proofs.FourGroups.{new_3, at_key}
 use Rattle.worked_executions.proofs.FourGroups.{not_0_in_1, not_3_in_1, not_0_in_2, not_1_in_2}
-use Rattle.worked_executions.proofs.FourGroups.{not_1_after, none_1, none_2, none_3}
-use Rattle.worked_executions.proofs.FourGroups.{opened_6, opened_7, opened_11, none_12}
+use Rattle.worked_executions.proofs.FourGroups.{not_1_after}
+use Rattle.worked_executions.proofs.FourGroups.{opened_7, opened_11, none_12}
 use Rattle.worked_executions.proofs.FourGroups.{is_keeper, no_insert}
 use Rattle.worked_executions.proofs.FourGroups.{first_slot_used, gone_if}
-
--- ---- the first rebuild ----
-
-gone1_frozen_0 : IsGone o 1 frozen_0
-gone1_frozen_0 = gone_if frozen_0 0 1 refl refl refl refl (λ e. omega (arith, e)) not_1_in_0
-
-links1 : MayFillHeader o frozen_0 1 1 header.Next
-links1 = record {
-  keeper = refl;
-  exists = omega arith;
-  unowned = not_1_in_0;
-  stage = inl (gone1_frozen_0, (λ f e. absurd (none_1 1 f e)), (λ k e. none_some e));
-}
-
-gone1_1 : IsGone o 1 step_1
-gone1_1 = gone_if step_1 0 1 refl refl refl refl (λ e. omega (arith, e)) not_1_in_0
-
-begins1 : MayBegin o step_1 1 1 0 4 1
-begins1 = record {
-  keeper = refl;
-  exists = omega arith;
-  ordered = (omega arith, omega arith);
-  gone = gone1_1;
-  settled = λ f e. absurd (none_1 1 f e);
-  phase_word = refl;
-  head_word = refl;
-  closed = no_insert step_1 1 refl (λ f. refl);
-  no_row = λ p k e. cc;
-  not_live = λ k p j h e. cc;
-  no_target = λ a p y j h e. cc;
-  unreached = λ b p j is m e. cc;
-  apart = λ k f e. absurd (none_1 (group_of o k step_1) f e);
-  replaced = λ g e. absurd (none_1 g 1 e);
-  no_old_target = λ a p y g k e at s. none_1 g 1 at;
-}
-
-gone2_2 : IsGone o 2 step_2
-gone2_2 = gone_if step_2 0 2 refl refl refl refl (λ e. omega (arith, e)) not_2_in_0
-
-begins2 : MayBegin o step_2 1 2 5 greatest_key 1
-begins2 = record {
-  keeper = refl;
-  exists = omega arith;
-  ordered = (omega arith, omega arith);
-  gone = gone2_2;
-  settled = λ f e. absurd (none_2 2 f e);
-  phase_word = refl;
-  head_word = refl;
-  closed = no_insert step_2 2 refl (λ f. refl);
-  no_row = λ p k e. cc;
-  not_live = λ k p j h e. cc;
-  no_target = λ a p y j h e. cc;
-  unreached = λ b p j is m e. cc;
-  apart = λ k f e. absurd (none_2 (group_of o k step_2) f e);
-  replaced = λ g e. absurd (none_2 g 2 e);
-  no_old_target = λ a p y g k e at s. none_2 g 2 at;
-}
-
--- the groups that the first rebuild made
-made_by_1 : (h : ℕ) → rebuild h step_3 ≡ Some 1 → Same 1 h ⊎ Same 2 h
-made_by_1 h e = dite (ℕ_discrete 2 h) (λ (z : Same 2 h). inr z)
-    (λ (n : Same 2 h → ⊥). dite (ℕ_discrete 1 h) (λ (z : Same 1 h). inl z)
-    (λ (m : Same 1 h → ⊥). none_some (sym (choice-other 1 h (Some 1) None m)
-    ∙ (named_before 2 (rebuild h step_2) 1
-    (sym (choice-other 2 h (Some 1) (unless_named 2 (rebuild h step_2)) n) ∙ e)).1)))
-
--- the first rebuild's groups are 1 up to the key 4, and then 2
-new_at : (k h : ℕ) → successor k step_3 ≡ Some h → (Same 1 h × (k ≤ 4)) ⊎ (Same 2 h × (5 ≤ k))
-new_at k h e = go (nat_lt 4 k) refl (nat_lt k 5) refl e
-  where
-    go : (x : Bool) → nat_lt 4 k ≡ x → (y : Bool) → nat_lt k 5 ≡ y →
-        successor k step_3 ≡ Some h → (Same 1 h × (k ≤ 4)) ⊎ (Same 2 h × (5 ≤ k))
-    go false low y high e = let below : k ≤ 4 = ltb-false 4 k low in
-        inl (
-          at_key (λ a b w. a ≡ true → SameOption (new_1 a b) (Some h) → Same 1 h)
-              (λ is f. some_is f) (λ is f. not_so is) (λ is f. not_so is) k (is_low k below) e,
-          below,
-        )
-    go true low true high e = let above : 4 < k = ltb-true 4 k low in
-        let below : k < 5 = ltb-true k 5 high in absurd (omega (arith, above, below))
-    go true low false high e = let above : 4 < k = ltb-true 4 k low in
-        inr (
-          at_key (λ a b w. a ≡ false → SameOption (new_1 a b) (Some h) → Same 2 h)
-              (λ is f. not_so (sym is)) (λ is f. some_is f) (λ is f. none_some f) k (is_high k above) e,
-          omega (arith, above),
-        )
-
-chained_1 : AreChained o 1 step_3
-chained_1 k g h made new is next n = ⊎_elim
-    (λ (x : Same 1 g × (k ≤ 4)). ⊎_elim
-    (λ (y : Same 1 h × (k + 1 ≤ 4)). absurd (n (sym x.0 ∙ y.0)))
-    (λ (y : Same 2 h × (5 ≤ k + 1)). let border : 5 ≡ k + 1 = omega (arith, x.1, y.1) in
-    subst (λ (i : ℕ). (word o step_3 (Header i header.Next) ≡ h + 1)
-    × (word o step_3 (Header h header.Pivot) ≡ k + 1)) x.0
-    (subst (λ (i : ℕ). (word o step_3 (Header 1 header.Next) ≡ i + 1)
-    × (word o step_3 (Header i header.Pivot) ≡ k + 1)) y.0 (refl, border)))
-    (new_at (k + 1) h next))
-    (λ (x : Same 2 g × (5 ≤ k)). ⊎_elim
-    (λ (y : Same 1 h × (k + 1 ≤ 4)). absurd (omega (arith, x.1, y.1)))
-    (λ (y : Same 2 h × (5 ≤ k + 1)). absurd (n (sym x.0 ∙ y.0)))
-    (new_at (k + 1) h next))
-    (new_at k g is)
-
-new_below : (k h : ℕ) → successor k step_3 ≡ Some h → k ≤ greatest_key
-new_below k h e = (in_range 0 greatest_key k (at_key
-    (λ a b w. SameOption (new_1 a b) (Some h) → w ≡ true) (λ f. refl) (λ f. refl)
-    (λ f. none_some f) k e)).1
-
-has_new_1 : (k : ℕ) → k ≤ greatest_key → HasNewGroup 1 k step_3
-has_new_1 k below = at_key (λ a b w. w ≡ true →
-    (h : ℕ) × SameOption (new_1 a b) (Some h) × SameOption (rebuild h step_3) (Some 1))
-    (λ e. (1, refl, refl)) (λ e. (2, refl, refl)) (λ e. not_so e) k
-    (range_in 0 greatest_key k (omega arith) below)
-
-behind_1 : (k : ℕ) → group_of o k step_3 ≡ 0 → IsBehindFirst o 1 k step_3
-behind_1 k e =
-    let below = (in_range 0 greatest_key k (at_key (λ a b w. Same (cond w 0 4) 0 → w ≡ true)
-    (λ f. refl) (λ f. refl) (λ f. absurd (omega (arith, f))) k e)).1 in
-    let first : 0 ≤ k = omega arith in
-    (first, refl, λ j above under. has_new_1 j (omega (arith, below, under)))
-
-ends_1 : (k h : ℕ) → successor k step_3 ≡ Some h → rebuild h step_3 ≡ Some 1 →
-    (HasNewGroup 1 (k + 1) step_3 → ⊥) → IsNextWord o step_3 k (word o step_3 (Header h header.Next))
-ends_1 k h new made last = go (nat_lt k greatest_key) refl
-  where
-    go : (x : Bool) → nat_lt k greatest_key ≡ x →
-        IsNextWord o step_3 k (word o step_3 (Header h header.Next))
-    go true e = let more : k < greatest_key = ltb-true k greatest_key e in
-        absurd (last (has_new_1 (k + 1) (omega (arith, more))))
-    go false e = let above : greatest_key ≤ k = ltb-false k greatest_key e in
-        let below = new_below k h new in
-        ⊎_elim (λ (z : Same 1 h × (k ≤ 4)). absurd (omega (arith, above, z.1)))
-        (λ (z : Same 2 h × (5 ≤ k)). inl (
-          omega (arith, above, below),
-          subst (λ (y : ℕ). word o step_3 (Header y header.Next) ≡ 0) z.0 refl,
-        ))
-        (new_at k h new)
-
-opens0 : MayOpen o step_3 1 0 1
-opens0 = record {
-  keeper = refl;
-  frozen = refl;
-  closed = no_insert step_3 0 refl (λ f. refl);
-  named = refl;
-  fresh = λ h e. ⊎_elim (λ (z : Same 1 h). subst (λ (y : ℕ). phase y step_3 ≡ Open) z refl)
-      (λ (z : Same 2 h). subst (λ (y : ℕ). phase y step_3 ≡ Open) z refl) (made_by_1 h e);
-  unchained = λ k h e at. ⊎_elim (λ (z : Same 1 h). not_1_in_0 k (at ∙ sym z))
-      (λ (z : Same 2 h). not_2_in_0 k (at ∙ sym z)) (made_by_1 h e);
-  planned = at_key (λ a b w. Same (cond w 0 4) 0 →
-      (h : ℕ) × SameOption (new_1 a b) (Some h) × SameOption (rebuild h step_3) (Some 1))
-      (λ e. (1, refl, refl)) (λ e. (2, refl, refl)) (λ e. absurd (omega (arith, e)));
-  behind = behind_1;
-  chained = chained_1;
-  ends = ends_1;
-  siblings = λ j at. absurd (none_3 j 1 at);
-  only = λ g e at. absurd (none_3 g e at);
-  past = λ h e at from. absurd (none_3 h e at);
-}
-
-whole_1 : (w v : Bool) → Same (cond w 0 4) (cond v 0 4) → w ≡ v
-whole_1 true true e = refl
-whole_1 false false e = refl
-whole_1 true false e = absurd (omega (arith, e))
-whole_1 false true e = absurd (omega (arith, e))
-
--- the array of a group without keys
-sized_empty : (t : Execution) (g : ℕ) → ((i k : ℕ) → role o i t ≢ InArray g k) →
-    word o t (Header g header.Size) ≡ 0 → word o t (Header g header.LineError) ≡ 0 → IsSized o g t
-sized_empty t g none size error = record {
-  keys = [];
-  array = λ k. none (array_address (limits o) g 0) k;
-  size = size;
-  error = error;
-}
-
-installs_1 : MayInstall o step_4 1 (FirstSlot 0) 1 0 greatest_key
-installs_1 = record {
-  keeper = refl;
-  leads = (refl, first_slot_used);
-  first = (refl, refl);
-  named = refl;
-  starts = refl;
-  ends = λ h e. let two : Same 2 h = some_is e in
-      inl (refl, subst (λ (y : ℕ). word o step_4 (Header y header.Next) ≡ 0) two refl);
-  whole = λ j k e. whole_1 (within 0 j greatest_key) (within 0 k greatest_key) e;
-  all_old = λ j k f is at. at_key (λ a b w. phase (cond w 0 4) step_4 ≡ Opened f → w ≡ true)
-      (λ e. refl) (λ e. refl) (λ e. absurd (open_not e)) k;
-  sized = λ k h is new. ⊎_elim
-      (λ (x : Same 1 h × (k ≤ 4)). subst (λ (y : ℕ). IsSized o y step_4) x.0
-      (sized_empty step_4 1 (λ i j e. cc) refl refl))
-      (λ (x : Same 2 h × (5 ≤ k)). subst (λ (y : ℕ). IsSized o y step_4) x.0
-      (sized_empty step_4 2 (λ i j e. cc) refl refl))
-      (new_at k h new);
-  all_new = λ j k f g h is new made next too. at_key (λ a b w. SameOption (new_1 a b) (Some h) → w ≡ true)
-      (λ e. refl) (λ e. refl) (λ e. none_some e) k next;
-  opened = at_key (λ a b w. w ≡ true →
-      (f : ℕ) × (h : ℕ) × (phase (cond w 0 4) step_4 ≡ Opened f) × SameOption (new_1 a b) (Some h)
-      × SameOption (rebuild h step_4) (Some f) × (phase h step_4 ≡ Open))
-      (λ e. (1, 1, refl, refl, refl, refl)) (λ e. (1, 2, refl, refl, refl, refl))
-      (λ e. not_so e);
-  merged = λ k h p is new e. none_some e;
-}
-
-valid_5 : Valid o step_5
-valid_5 = (
-  installs_1,
-  (
-    opens0,
-    (
-      begins2,
-      (
-        begins1,
-        (
-          links1,
-          (record { keeper = refl; exists = omega arith; was = refl; chained = (0, refl) }, tt, is_keeper),
-          is_keeper,
-        ),
-        is_keeper,
-      ),
-      is_keeper,
-    ),
-    is_keeper,
-  ),
-  is_keeper,
-)
+use Rattle.worked_executions.proofs.SplitInTwo.{begins3, links3, sized_empty, valid_5}
 
 -- ---- the second rebuild ----
-
-gone3_frozen_1 : IsGone o 3 frozen_1
-gone3_frozen_1 = gone_if frozen_1 1 3 refl refl refl refl (λ e. omega (arith, e)) not_3_in_1
-
-not_3_yet : (k : ℕ) → successor k frozen_1 ≢ Some 3
-not_3_yet = at_key (λ a b w. SameOption (new_1 a b) (Some 3) → ⊥)
-    (λ e. let bad : Same 1 3 = some_is e in omega (arith, bad))
-    (λ e. let bad : Same 2 3 = some_is e in omega (arith, bad)) (λ e. none_some e)
-
-links3 : MayFillHeader o frozen_1 1 3 header.Next
-links3 = record {
-  keeper = refl;
-  exists = omega arith;
-  unowned = not_3_in_1;
-  stage = inl (
-    gone3_frozen_1,
-    (λ f e. let bad = (opened_6 3 f e).0 in absurd (omega (arith, bad))),
-    not_3_yet,
-  );
-}
-
-gone3_6 : IsGone o 3 step_6
-gone3_6 = gone_if step_6 1 3 refl refl refl refl (λ e. omega (arith, e)) not_3_in_1
-
-begins3 : MayBegin o step_6 1 3 0 4 3
-begins3 = record {
-  keeper = refl;
-  exists = omega arith;
-  ordered = (omega arith, omega arith);
-  gone = gone3_6;
-  settled = λ f e. let bad = (opened_6 3 f e).0 in absurd (omega (arith, bad));
-  phase_word = refl;
-  head_word = refl;
-  closed = no_insert step_6 3 refl (λ f. refl);
-  no_row = λ p k e. cc;
-  not_live = λ k p j h e. cc;
-  no_target = λ a p y j h e. cc;
-  unreached = λ b p j is m e. cc;
-  apart = λ k f e. absurd (not_0_in_1 k (sym (opened_6 (group_of o k step_6) f e).0));
-  replaced = λ g e. let bad = (opened_6 g 3 e).1 in absurd (omega (arith, bad));
-  no_old_target = λ a p y g k e at s. let bad = (opened_6 g 3 at).1 in omega (arith, bad);
-}
 
 -- the groups that the second rebuild made
 made_by_3 : (h : ℕ) → rebuild h step_7 ≡ Some 3 → Same 3 h
@@ -450,7 +181,7 @@ valid_10 = (
       (
         opens1,
         (
-          begins3,
+          begins3 3,
           (
             links3,
             (record { keeper = refl; exists = omega arith; was = refl; chained = (0, refl) }, valid_5, is_keeper),
@@ -515,10 +246,10 @@ begins_again = record {
   not_live = λ k p j h e. cc;
   no_target = λ a p y j h e. cc;
   unreached = λ b p j is m e. cc;
-  apart = λ k f e. absurd (⊎_elim
+  idle = λ k f e. ⊎_elim
       (λ (z : Same 1 (group_of o k step_11) × Same 3 f). not_1_in_2 k (sym z.0))
       (λ (z : Same 0 (group_of o k step_11) × Same 1 f). not_0_in_2 k (sym z.0))
-      (opened_11 (group_of o k step_11) f e));
+      (opened_11 (group_of o k step_11) f e);
   replaced = λ g e. ⊎_elim
       (λ (z : Same 1 g × Same 3 1). let bad = z.1 in absurd (omega (arith, bad)))
       (λ (z : Same 0 g × Same 1 1). subst (λ (y : ℕ). IsGone o y step_11) z.0 gone0_11)

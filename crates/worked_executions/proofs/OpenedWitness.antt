@@ -3,7 +3,7 @@
 use Rattle.std.proofs.Common.{◌≡◌, ℕ, ◌+◌, ◌*◌, ◌<◌, ◌≤◌, inl, inr, ⊎_elim, Some}
 use Rattle.std.proofs.Common.{None, Bool, true, false, [], ◌∷◌, cond, refl, sym, ap, ◌∙◌, subst}
 use Rattle.std.proofs.Common.{arith, nat_lt, ltb-true, ltb-false}
-use Rattle.worked_executions.proofs.Ranges.{Same, SameOption}
+use Rattle.worked_executions.proofs.Equations.{Same, SameOption}
 use Rattle.std.specs.Prelude.{◌==◌}
 use mathlib.Core.Logic.{dite}
 use native.Mathlib.Decide.{ℕ_discrete}
@@ -23,7 +23,7 @@ use Rattle.index_machine.specs.RecordConditions.{MayLink, MayLoadState, MayLock}
 use Rattle.index_machine.specs.RecordConditions.{MayUnlock}
 use Rattle.index_machine.specs.Rows.{HeldBy, HoldsNone, InArray, InBuffer, Unused}
 use Rattle.index_machine.specs.Sections.{IsCaller, IsHand, IsInside, IsReading}
-use Rattle.worked_executions.proofs.Ranges.{in_range, range_in}
+use Rattle.index_machine.proofs.Ranges.{in_range, range_in}
 use Rattle.worked_executions.proofs.SmallForms.{no_lock_changed, no_lock_first}
 use Rattle.worked_executions.proofs.SmallTable.{changed_1, changed_10}
 use Rattle.worked_executions.proofs.SmallTable.{changed_2, changed_3, changed_4, changed_5, changed_6}
@@ -215,7 +215,7 @@ begins1 = record {
   not_live = λ k p j h e. no_array_first (87 == p) 1 j e;
   no_target = λ a p y j h e. no_array_first (87 == p) 1 j e;
   unreached = λ b p j is m e. no_array_first (87 == p) 1 j e;
-  apart = λ k f e. absurd (frozen_unopened (0 == group_of o k opened_1) f e);
+  idle = λ k f e. frozen_unopened (0 == group_of o k opened_1) f e;
   replaced = λ g e. absurd (frozen_unopened (0 == g) 1 e);
   no_old_target = λ a p y g k e at s. frozen_unopened (0 == g) 1 at;
 }

@@ -3,7 +3,7 @@
 use Rattle.std.proofs.Common.{◌≡◌, ◌≢◌, ℕ, ◌+◌, ◌*◌, inl, inr, ⊎_elim, Some}
 use Rattle.std.proofs.Common.{None, Bool, true, false, [], ◌∷◌, cond, refl, sym, ap, ◌∙◌, subst}
 use Rattle.std.proofs.Common.{arith}
-use Rattle.worked_executions.proofs.Ranges.{Same, SameOption}
+use Rattle.worked_executions.proofs.Equations.{Same, SameOption}
 use Rattle.std.specs.Prelude.{◌==◌}
 use mathlib.Core.Logic.{dite}
 use native.Mathlib.Decide.{ℕ_discrete}
@@ -467,7 +467,7 @@ begins_again = record {
   not_live = λ k p j h e. array_again (87 == p) (55 == p) j e;
   no_target = λ a p y j h e. array_again (87 == p) (55 == p) j e;
   unreached = λ b p j is m e. array_again (87 == p) (55 == p) j e;
-  apart = λ k f e. absurd (gone0_again_3.unowned k (sym (opened_at (group_of o k again_3) f e).0));
+  idle = λ k f e. gone0_again_3.unowned k (sym (opened_at (group_of o k again_3) f e).0);
   replaced = λ g e. not_named g e;
   no_old_target = λ a p y g k e at s. not_named g at;
 }

@@ -1,2 +1,3 @@
 pub mod Witness
 pub mod NameUsedAgain
+pub mod BegunMeanwhile

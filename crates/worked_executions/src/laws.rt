@@ -1,4 +1,5 @@
 //! Executions that are valid. Each function is a law and does nothing.
+ghost use Rattle.worked_executions.specs.BegunMeanwhile.{NoGroupIsBegunMeanwhile};
 ghost use Rattle.worked_executions.specs.NameUsedAgain.{NamesAreUsedAgain};
 ghost use Rattle.worked_executions.specs.Witness.{WholeRebuildIsValid};
 
@@ -12,4 +13,9 @@ pub fn whole_rebuild_is_valid()
 /// is still in the chain, and this group is opened to it.
 pub fn names_are_used_again()
     ensures { NamesAreUsedAgain }
+{}
+
+/// Each step up to the opening of one of two groups is allowed, and then no group is begun anew.
+pub fn no_group_is_begun_meanwhile()
+    ensures { NoGroupIsBegunMeanwhile }
 {}

@@ -1,15 +1,8 @@
 -- Keys in a range, as a test and as two comparisons.
-use Rattle.std.proofs.Common.{◌≡◌, ℕ, ◌≤◌, Option, Bool, true, false, cond, refl, nat_lt}
+use Rattle.std.proofs.Common.{◌≡◌, ℕ, ◌≤◌, Bool, true, false, cond, refl, nat_lt}
 use Rattle.std.proofs.Common.{le-ltb, ltb-false}
-use Rattle.index_machine.specs.Openings.{within}
 use Rattle.index_machine.proofs.Options.{not_so}
-
--- equations of numbers and of what may be one, as types with names of their own
-abbrev pub Same : ℕ → ℕ → Type 0
-Same a b = a ≡ b
-
-abbrev pub SameOption : Option ℕ → Option ℕ → Type 0
-SameOption a b = a ≡ b
+use Rattle.index_machine.specs.Openings.{within}
 
 pub in_range : (low high k : ℕ) → within low k high ≡ true → (low ≤ k) × (k ≤ high)
 in_range low high k e = go (nat_lt k low) (nat_lt high k) refl refl e

@@ -1,0 +1,243 @@
+-- A group is split into two: the first rebuild of the table with four groups is valid.
+use Rattle.std.proofs.Common.{◌≡◌, ◌≢◌, ℕ, ◌≤◌, inl, inr, ⊎_elim, Some}
+use Rattle.std.proofs.Common.{None, Bool, true, false, [], ◌∷◌, cond, refl, sym, ◌∙◌, subst}
+use Rattle.std.proofs.Common.{arith, ◌⊎◌}
+use Rattle.worked_executions.proofs.Equations.{Same, SameOption}
+use mathlib.Core.Logic.{dite}
+use native.Mathlib.Decide.{ℕ_discrete}
+use Rattle.index_machine.proofs.Executions.{choice-other}
+use Rattle.index_machine.specs.Conditions.{Valid}
+use Rattle.index_machine.specs.Execution.{Execution, event}
+use Rattle.index_machine.specs.Groups.{phase, rebuild, unless_named}
+use Rattle.index_machine.specs.KeyRanges.{group_of, successor}
+use Rattle.index_machine.specs.Openings.{greatest_key, within}
+use Rattle.index_machine.specs.Permissions.{IsGone}
+use Rattle.index_machine.specs.RebuildConditions.{IsSized, MayBegin}
+use Rattle.index_machine.specs.RebuildConditions.{MayFillHeader, MayInstall, MayOpen}
+use Rattle.index_machine.specs.Words.{limits, word}
+use Rattle.index_machine.proofs.Ranges.{in_range}
+use Rattle.index_machine.specs.Rows.{InArray, role}
+use Rattle.word_layout.specs.Addresses.{array_address}
+use Rattle.word_layout.specs.Words.{Header}
+use Rattle.index_machine.specs.declared.events.Action.TheVariants.{StoreHeader}
+use Rattle.index_machine.specs.declared.events.InstallWord.TheVariants.{FirstSlot}
+use Rattle.machine_barriers.proofs.OpenedGroups.{open_not}
+use Rattle.index_machine.proofs.Options.{named_before, none_some, not_so, some_is}
+use Rattle.word_layout.specs.declared.headers.HeaderWord.TheVariants as header
+use Rattle.word_layout.specs.declared.phase.Phase.TheVariants.{Open, Opened}
+use Rattle.worked_executions.proofs.FourGroups.{o, frozen_0, step_1, step_2}
+use Rattle.worked_executions.proofs.FourGroups.{step_3, step_4, step_5, frozen_1}
+use Rattle.worked_executions.proofs.FourGroups.{new_1}
+use Rattle.worked_executions.proofs.FourGroups.{at_key, not_1_in_0, not_2_in_0}
+use Rattle.worked_executions.proofs.FourGroups.{not_0_in_1, not_3_in_1}
+use Rattle.worked_executions.proofs.FourGroups.{none_1, none_2, none_3}
+use Rattle.worked_executions.proofs.FourGroups.{opened_6}
+use Rattle.worked_executions.proofs.FourGroups.{is_keeper, no_insert}
+use Rattle.worked_executions.proofs.FourGroups.{first_slot_used, gone_if}
+use Rattle.worked_executions.proofs.TwoNewGroups.{ArePair, new_at, pair_opens}
+
+-- ---- the first rebuild ----
+
+gone1_frozen_0 : IsGone o 1 frozen_0
+gone1_frozen_0 = gone_if frozen_0 0 1 refl refl refl refl (λ e. omega (arith, e)) not_1_in_0
+
+links1 : MayFillHeader o frozen_0 1 1 header.Next
+links1 = record {
+  keeper = refl;
+  exists = omega arith;
+  unowned = not_1_in_0;
+  stage = inl (gone1_frozen_0, (λ f e. absurd (none_1 1 f e)), (λ k e. none_some e));
+}
+
+gone1_1 : IsGone o 1 step_1
+gone1_1 = gone_if step_1 0 1 refl refl refl refl (λ e. omega (arith, e)) not_1_in_0
+
+begins1 : MayBegin o step_1 1 1 0 4 1
+begins1 = record {
+  keeper = refl;
+  exists = omega arith;
+  ordered = (omega arith, omega arith);
+  gone = gone1_1;
+  settled = λ f e. absurd (none_1 1 f e);
+  phase_word = refl;
+  head_word = refl;
+  closed = no_insert step_1 1 refl (λ f. refl);
+  no_row = λ p k e. cc;
+  not_live = λ k p j h e. cc;
+  no_target = λ a p y j h e. cc;
+  unreached = λ b p j is m e. cc;
+  idle = λ k f e. none_1 (group_of o k step_1) f e;
+  replaced = λ g e. absurd (none_1 g 1 e);
+  no_old_target = λ a p y g k e at s. none_1 g 1 at;
+}
+
+gone2_2 : IsGone o 2 step_2
+gone2_2 = gone_if step_2 0 2 refl refl refl refl (λ e. omega (arith, e)) not_2_in_0
+
+begins2 : MayBegin o step_2 1 2 5 greatest_key 1
+begins2 = record {
+  keeper = refl;
+  exists = omega arith;
+  ordered = (omega arith, omega arith);
+  gone = gone2_2;
+  settled = λ f e. absurd (none_2 2 f e);
+  phase_word = refl;
+  head_word = refl;
+  closed = no_insert step_2 2 refl (λ f. refl);
+  no_row = λ p k e. cc;
+  not_live = λ k p j h e. cc;
+  no_target = λ a p y j h e. cc;
+  unreached = λ b p j is m e. cc;
+  idle = λ k f e. none_2 (group_of o k step_2) f e;
+  replaced = λ g e. absurd (none_2 g 2 e);
+  no_old_target = λ a p y g k e at s. none_2 g 2 at;
+}
+
+-- group 0 answers for all keys at first
+all_keys : (k : ℕ) → group_of o k step_3 ≡ 0 → k ≤ greatest_key
+all_keys k e = (in_range 0 greatest_key k (at_key (λ a b w. Same (cond w 0 4) 0 → w ≡ true)
+    (λ f. refl) (λ f. refl) (λ f. absurd (omega (arith, f))) k e)).1
+
+-- the groups that the first rebuild made
+made_by_1 : (h : ℕ) → rebuild h step_3 ≡ Some 1 → Same 1 h ⊎ Same 2 h
+made_by_1 h e = dite (ℕ_discrete 2 h) (λ (z : Same 2 h). inr z)
+    (λ (n : Same 2 h → ⊥). dite (ℕ_discrete 1 h) (λ (z : Same 1 h). inl z)
+    (λ (m : Same 1 h → ⊥). none_some (sym (choice-other 1 h (Some 1) None m)
+    ∙ (named_before 2 (rebuild h step_2) 1
+    (sym (choice-other 2 h (Some 1) (unless_named 2 (rebuild h step_2)) n) ∙ e)).1)))
+
+-- the first rebuild's groups are 1 up to the key 4, and then 2
+pair_1 : ArePair step_3 1 2 new_1
+pair_1 = record {
+  is = λ k. refl;
+  of_keys = (refl, refl, refl);
+  first = (refl, refl, refl, refl);
+  second = (refl, refl, refl, refl);
+  only = made_by_1;
+  unchained = λ k. (not_1_in_0 k, not_2_in_0 k);
+}
+
+opens0 : MayOpen o step_3 1 0 1
+opens0 = pair_opens step_3 1 2 new_1 pair_1 0 refl (no_insert step_3 0 refl (λ f. refl)) none_3
+    all_keys
+
+whole_1 : (w v : Bool) → Same (cond w 0 4) (cond v 0 4) → w ≡ v
+whole_1 true true e = refl
+whole_1 false false e = refl
+whole_1 true false e = absurd (omega (arith, e))
+whole_1 false true e = absurd (omega (arith, e))
+
+-- the array of a group without keys
+pub sized_empty : (t : Execution) (g : ℕ) → ((i k : ℕ) → role o i t ≢ InArray g k) →
+    word o t (Header g header.Size) ≡ 0 → word o t (Header g header.LineError) ≡ 0 → IsSized o g t
+sized_empty t g none size error = record {
+  keys = [];
+  array = λ k. none (array_address (limits o) g 0) k;
+  size = size;
+  error = error;
+}
+
+installs_1 : MayInstall o step_4 1 (FirstSlot 0) 1 0 greatest_key
+installs_1 = record {
+  keeper = refl;
+  leads = (refl, first_slot_used);
+  first = (refl, refl);
+  named = refl;
+  starts = refl;
+  ends = λ h e. let two : Same 2 h = some_is e in
+      inl (refl, subst (λ (y : ℕ). word o step_4 (Header y header.Next) ≡ 0) two refl);
+  whole = λ j k e. whole_1 (within 0 j greatest_key) (within 0 k greatest_key) e;
+  all_old = λ j k f is at. at_key (λ a b w. phase (cond w 0 4) step_4 ≡ Opened f → w ≡ true)
+      (λ e. refl) (λ e. refl) (λ e. absurd (open_not e)) k;
+  sized = λ k h is new. ⊎_elim
+      (λ (x : Same 1 h × (k ≤ 4)). subst (λ (y : ℕ). IsSized o y step_4) x.0
+      (sized_empty step_4 1 (λ i j e. cc) refl refl))
+      (λ (x : Same 2 h × (5 ≤ k)). subst (λ (y : ℕ). IsSized o y step_4) x.0
+      (sized_empty step_4 2 (λ i j e. cc) refl refl))
+      (new_at step_3 1 2 new_1 pair_1 k h new);
+  all_new = λ j k f g h is new made next too. at_key
+      (λ a b w. SameOption (new_1 a b) (Some h) → w ≡ true)
+      (λ e. refl) (λ e. refl) (λ e. none_some e) k next;
+  opened = at_key (λ a b w. w ≡ true →
+      (f : ℕ) × (h : ℕ) × (phase (cond w 0 4) step_4 ≡ Opened f) × SameOption (new_1 a b) (Some h)
+      × SameOption (rebuild h step_4) (Some f) × (phase h step_4 ≡ Open))
+      (λ e. (1, 1, refl, refl, refl, refl)) (λ e. (1, 2, refl, refl, refl, refl))
+      (λ e. not_so e);
+  merged = λ k h p is new e. none_some e;
+}
+
+pub valid_5 : Valid o step_5
+valid_5 = (
+  installs_1,
+  (
+    opens0,
+    (
+      begins2,
+      (
+        begins1,
+        (
+          links1,
+          (
+            record { keeper = refl; exists = omega arith; was = refl; chained = (0, refl) },
+            tt,
+            is_keeper,
+          ),
+          is_keeper,
+        ),
+        is_keeper,
+      ),
+      is_keeper,
+    ),
+    is_keeper,
+  ),
+  is_keeper,
+)
+
+-- ---- the row that is free behind it ----
+
+gone3_frozen_1 : IsGone o 3 frozen_1
+gone3_frozen_1 = gone_if frozen_1 1 3 refl refl refl refl (λ e. omega (arith, e)) not_3_in_1
+
+not_3_yet : (k : ℕ) → successor k frozen_1 ≢ Some 3
+not_3_yet = at_key (λ a b w. SameOption (new_1 a b) (Some 3) → ⊥)
+    (λ e. let bad : Same 1 3 = some_is e in omega (arith, bad))
+    (λ e. let bad : Same 2 3 = some_is e in omega (arith, bad)) (λ e. none_some e)
+
+pub links3 : MayFillHeader o frozen_1 1 3 header.Next
+links3 = record {
+  keeper = refl;
+  exists = omega arith;
+  unowned = not_3_in_1;
+  stage = inl (
+    gone3_frozen_1,
+    (λ f e. let bad = (opened_6 3 f e).0 in absurd (omega (arith, bad))),
+    not_3_yet,
+  );
+}
+
+-- with this next word the row is ready to be begun
+abbrev pub linked_3 : ℕ → Execution
+linked_3 next = event 1 (StoreHeader 3 header.Next next) ∷ frozen_1
+
+gone3_linked : (next : ℕ) → IsGone o 3 (linked_3 next)
+gone3_linked next =
+    gone_if (linked_3 next) 1 3 refl refl refl refl (λ e. omega (arith, e)) not_3_in_1
+
+pub begins3 : (next : ℕ) → MayBegin o (linked_3 next) 1 3 0 4 3
+begins3 next = record {
+  keeper = refl;
+  exists = omega arith;
+  ordered = (omega arith, omega arith);
+  gone = gone3_linked next;
+  settled = λ f e. let bad = (opened_6 3 f e).0 in absurd (omega (arith, bad));
+  phase_word = refl;
+  head_word = refl;
+  closed = no_insert (linked_3 next) 3 refl (λ f. refl);
+  no_row = λ p k e. cc;
+  not_live = λ k p j h e. cc;
+  no_target = λ a p y j h e. cc;
+  unreached = λ b p j is m e. cc;
+  idle = λ k f e. not_0_in_1 k (sym (opened_6 (group_of o k (linked_3 next)) f e).0);
+  replaced = λ g e. let bad = (opened_6 g 3 e).1 in absurd (omega (arith, bad));
+  no_old_target = λ a p y g k e at s. let bad = (opened_6 g 3 at).1 in omega (arith, bad);
+}
