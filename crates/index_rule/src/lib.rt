@@ -15,7 +15,6 @@ mod plays;
 mod rows;
 mod rule;
 mod swap;
-mod tried;
 mod view;
 
 pub use board::Board;
@@ -30,5 +29,4 @@ pub use own_rows::OwnRow;
 pub use rows::{PrivateRow, RetiredRow};
 pub use rule::{Place, Words};
 pub use swap::{Linked, Swap};
-pub use tried::{Tried, Why};
 pub use view::{Heard, View};

@@ -7,8 +7,9 @@ ghost use Rattle.point_calls.specs.PointCalls.{HasSpare};
 ghost use Rattle.index_tests.specs.Boards.{RestsWithNoRow};
 
 use crate::boards::{SMALL, enter, next_hand, opened};
-use index_rule::{Board, Hand, OwnRow, Tried};
+use index_rule::{Board, Hand, OwnRow};
 use point_calls::{get, put, remove};
+use tried_calls::Tried;
 
 // The caller enters, with no row of its own.
 fn enter_to_call(board: &Board, hand: &mut Hand)

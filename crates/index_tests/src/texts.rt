@@ -1,6 +1,6 @@
 //! What is printed of an index that was not opened, and of a call that is to be tried again.
-use index_rule::Why;
 use std::test::Fail;
+use tried_calls::Why;
 use xindex_core::OpenError;
 
 #[test]

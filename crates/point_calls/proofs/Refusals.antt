@@ -5,7 +5,7 @@ use Rattle.map_model.specs.declared.entries.Change.{Change}
 use Rattle.index_machine.specs.declared.events.Action.TheVariants.{FailLock, LoadState}
 use Rattle.index_rule.specs.declared.board.Board.{Board}
 use Rattle.index_rule.specs.declared.hand.Hand.{Hand}
-use Rattle.index_rule.specs.declared.tried.Tried.{Tried}
+use Rattle.tried_calls.specs.declared.tried.Tried.{Tried}
 use Rattle.index_rule.specs.Hands.{Makes, known, opening_of}
 use Rattle.index_rule.specs.Moments.{AddsNoEntry}
 use Rattle.delta_buffer.specs.Searching.{CanSearch, IsReachedRow}

@@ -14,7 +14,7 @@ use Rattle.index_machine.specs.Places.{first_version}
 use Rattle.index_machine.specs.Rows.{role_key}
 use Rattle.index_rule.specs.declared.board.Board.{Board}
 use Rattle.index_rule.specs.declared.hand.Hand.{Hand}
-use Rattle.index_rule.specs.declared.tried.Tried.TheVariants as tried
+use Rattle.tried_calls.specs.declared.tried.Tried.TheVariants as tried
 use Rattle.index_rule.specs.Hands.{Makes, known, opening_of}
 use Rattle.index_rule.specs.Moments.{AddsChange, AddsNoEntry}
 use Rattle.index_rule.specs.Records.{key_at, or_zero}

@@ -11,9 +11,9 @@ use Rattle.index_machine.specs.LivePlaces.{history}
 use Rattle.index_machine.specs.Places.{first_version}
 use Rattle.index_rule.specs.declared.board.Board.{Board}
 use Rattle.index_rule.specs.declared.hand.Hand.{Hand}
-use Rattle.index_rule.specs.declared.tried.Tried.{Tried}
-use Rattle.index_rule.specs.declared.tried.Tried.TheVariants as tried
-use Rattle.index_rule.specs.declared.tried.Why.TheVariants as why
+use Rattle.tried_calls.specs.declared.tried.Tried.{Tried}
+use Rattle.tried_calls.specs.declared.tried.Tried.TheVariants as tried
+use Rattle.tried_calls.specs.declared.tried.Why.TheVariants as why
 use Rattle.index_rule.specs.Hands.{opening_of}
 use Rattle.index_rule.specs.Moments.{IsWithin}
 use Rattle.record_cell.specs.declared.answers.Wrote.{Wrote}

@@ -2,10 +2,10 @@
 use Rattle.std.specs.Prelude.{ℕ, Option}
 use Rattle.index_rule.specs.declared.board.Board.{Board}
 use Rattle.index_rule.specs.declared.hand.Hand.{Hand}
-use Rattle.index_rule.specs.declared.tried.Tried.{Tried}
-use Rattle.index_rule.specs.declared.tried.Tried.TheVariants as tried
-use Rattle.index_rule.specs.declared.tried.Why.{Why}
-use Rattle.index_rule.specs.declared.tried.Why.TheVariants as why
+use Rattle.tried_calls.specs.declared.tried.Tried.{Tried}
+use Rattle.tried_calls.specs.declared.tried.Tried.TheVariants as tried
+use Rattle.tried_calls.specs.declared.tried.Why.{Why}
+use Rattle.tried_calls.specs.declared.tried.Why.TheVariants as why
 use Rattle.index_rule.specs.Moments.{AddsNoEntry}
 use Rattle.point_calls.specs.PointCalls.{LooksUp, MeetsChange, MeetsLock}
 

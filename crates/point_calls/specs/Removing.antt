@@ -3,10 +3,10 @@ use Rattle.std.specs.Prelude.{ℕ, Option, Some, None}
 use Rattle.map_model.specs.declared.entries.Change.TheVariants.{Remove}
 use Rattle.index_rule.specs.declared.board.Board.{Board}
 use Rattle.index_rule.specs.declared.hand.Hand.{Hand}
-use Rattle.index_rule.specs.declared.tried.Tried.{Tried}
-use Rattle.index_rule.specs.declared.tried.Tried.TheVariants as tried
-use Rattle.index_rule.specs.declared.tried.Why.{Why}
-use Rattle.index_rule.specs.declared.tried.Why.TheVariants as why
+use Rattle.tried_calls.specs.declared.tried.Tried.{Tried}
+use Rattle.tried_calls.specs.declared.tried.Tried.TheVariants as tried
+use Rattle.tried_calls.specs.declared.tried.Why.{Why}
+use Rattle.tried_calls.specs.declared.tried.Why.TheVariants as why
 use Rattle.index_rule.specs.Moments.{AddsChange, AddsNoEntry}
 use Rattle.point_calls.specs.Changing.{LosesLock, MeetsLast}
 use Rattle.point_calls.specs.PointCalls.{LooksUp, MeetsLock}

@@ -7,9 +7,10 @@ ghost use Rattle.point_calls.specs.Getting.{GetTells};
 
 use crate::lookup::{locate, look, miss};
 use delta_buffer::{Found, find};
-use index_rule::{Board, Hand, Tried, Why};
+use index_rule::{Board, Hand};
 use record_cell::{Read, read};
 use std::snapshot::Snapshot;
+use tried_calls::{Tried, Why};
 
 /// The value of the key, or `None`, tried once.
 ///

@@ -9,9 +9,10 @@ ghost use Rattle.point_calls.specs.Putting.{GetsNoRow, KeepsSpare};
 use crate::found::Gap;
 use crate::refusing::raced;
 use delta_buffer::insert;
-use index_rule::{Board, Hand, Linked, PrivateRow, Tried, Why};
+use index_rule::{Board, Hand, Linked, PrivateRow};
 use row_arena::{Taken, fill, take};
 use std::snapshot::Snapshot;
+use tried_calls::{Tried, Why};
 use word_layout::Phase;
 
 /// Links a row for the key into the gap, tried once. It takes effect at the exchange of the

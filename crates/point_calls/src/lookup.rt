@@ -1,15 +1,16 @@
 //! The group of a key, and the look that ends a call which found it or missed it.
 ghost use Rattle.std.specs.Prelude.{◌≡◌, None};
 ghost use Rattle.index_rule.specs.Looks.{MayWriteLook};
-ghost use Rattle.index_rule.specs.declared.tried.Tried.TheVariants.{Done};
+ghost use Rattle.tried_calls.specs.declared.tried.Tried.TheVariants.{Done};
 ghost use Rattle.index_rule.specs.Calls.{CanCall};
 ghost use Rattle.point_calls.specs.Exchanges.{MakesFewExchanges, no_exchange};
 ghost use Rattle.point_calls.specs.PointCalls.{IsOneSection, KeepsRows, LooksUp};
 ghost use Rattle.point_calls.specs.Lookup.{ComesTo, HasMissed};
 
-use index_rule::{Board, Hand, Tried};
+use index_rule::{Board, Hand};
 use std::marker::Brand;
 use std::snapshot::Snapshot;
+use tried_calls::Tried;
 
 /// Loads the group of the root's slot.
 #[inline]

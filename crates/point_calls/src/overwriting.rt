@@ -1,6 +1,6 @@
 //! A row that a key has is given a value.
 ghost use Rattle.std.specs.Prelude.{◌≡◌, ◌≢◌};
-ghost use Rattle.index_rule.specs.declared.tried.Tried.TheVariants.{Full};
+ghost use Rattle.tried_calls.specs.declared.tried.Tried.TheVariants.{Full};
 ghost use Rattle.index_rule.specs.Calls.{CanCall};
 ghost use Rattle.point_calls.specs.Exchanges.{MakesFewExchanges, one_lock};
 ghost use Rattle.point_calls.specs.PointCalls.{IsOneSection, KeepsRows, OpensEmpty};
@@ -8,9 +8,10 @@ ghost use Rattle.point_calls.specs.Putting.{HasFoundRow, HasFoundTombstone, PutT
 
 use crate::found::FoundRow;
 use crate::refusing::refused;
-use index_rule::{Board, Hand, Tried, Why};
+use index_rule::{Board, Hand};
 use record_cell::{Wrote, revive, update};
 use std::snapshot::Snapshot;
+use tried_calls::{Tried, Why};
 
 /// Gives the row of the key the value, tried once, whether it is a tombstone or not.
 #[inline]

@@ -10,8 +10,9 @@ use crate::linking::link_new;
 use crate::lookup::locate;
 use crate::overwriting::overwrite;
 use delta_buffer::{Found, find};
-use index_rule::{Board, Hand, PrivateRow, Tried};
+use index_rule::{Board, Hand, PrivateRow};
 use std::snapshot::Snapshot;
+use tried_calls::Tried;
 
 /// Gives the key the value, tried once, and answers the one that it had, or `None`.
 ///

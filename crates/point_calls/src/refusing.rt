@@ -1,11 +1,11 @@
 //! What a call answers that came to no end.
 ghost use Rattle.std.specs.Prelude.{◌≡◌, Some};
-ghost use Rattle.index_rule.specs.declared.tried.Tried.TheVariants.{Again};
-ghost use Rattle.index_rule.specs.declared.tried.Why.TheVariants.{Raced};
+ghost use Rattle.tried_calls.specs.declared.tried.Tried.TheVariants.{Again};
+ghost use Rattle.tried_calls.specs.declared.tried.Why.TheVariants.{Raced};
 ghost use Rattle.point_calls.specs.Changing.{IsRefusal, refusal_of};
 
-use index_rule::{Tried, Why};
 use record_cell::Wrote;
+use tried_calls::{Tried, Why};
 use word_layout::state_word;
 
 /// The answer of a call that lost the exchange of the word at this address.

@@ -8,9 +8,10 @@ ghost use Rattle.point_calls.specs.Removing.{RemoveTells};
 use crate::lookup::{locate, miss};
 use crate::refusing::refused;
 use delta_buffer::{Found, find};
-use index_rule::{Board, Hand, Tried};
+use index_rule::{Board, Hand};
 use record_cell::{Wrote, kill};
 use std::snapshot::Snapshot;
+use tried_calls::Tried;
 
 /// Removes the key, tried once, and answers the value that it had, or `None`.
 ///

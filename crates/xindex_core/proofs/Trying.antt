@@ -15,9 +15,9 @@ use Rattle.index_machine.proofs.Executions.{continues_trans}
 use Rattle.index_rule.specs.declared.board.Board.{Board}
 use Rattle.index_rule.specs.declared.hand.Hand.{Hand}
 use Rattle.index_rule.specs.declared.rows.PrivateRow.{PrivateRow}
-use Rattle.index_rule.specs.declared.tried.Tried.{Tried}
-use Rattle.index_rule.specs.declared.tried.Tried.TheVariants as tried
-use Rattle.index_rule.specs.declared.tried.Why.TheVariants as why
+use Rattle.tried_calls.specs.declared.tried.Tried.{Tried}
+use Rattle.tried_calls.specs.declared.tried.Tried.TheVariants as tried
+use Rattle.tried_calls.specs.declared.tried.Why.TheVariants as why
 use Rattle.index_rule.specs.Hands.{IsHandOf, Makes, known, opening_of, view}
 use Rattle.index_rule.specs.Moments.{AddsChange, AddsNoEntry, IsWithin}
 use Rattle.point_calls.specs.Changing.{LosesLock, MeetsLast}

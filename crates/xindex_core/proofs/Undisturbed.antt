@@ -18,10 +18,10 @@ use Rattle.index_machine.specs.Words.{Store, link_behind, store_of, stored, word
 use Rattle.index_machine.proofs.Executions.{continues_trans, valid_before}
 use Rattle.index_rule.specs.declared.board.Board.{Board}
 use Rattle.index_rule.specs.declared.hand.Hand.{Hand}
-use Rattle.index_rule.specs.declared.tried.Tried.{Tried}
-use Rattle.index_rule.specs.declared.tried.Tried.TheVariants.{Again}
-use Rattle.index_rule.specs.declared.tried.Why.{Why}
-use Rattle.index_rule.specs.declared.tried.Why.TheVariants as why
+use Rattle.tried_calls.specs.declared.tried.Tried.{Tried}
+use Rattle.tried_calls.specs.declared.tried.Tried.TheVariants.{Again}
+use Rattle.tried_calls.specs.declared.tried.Why.{Why}
+use Rattle.tried_calls.specs.declared.tried.Why.TheVariants as why
 use Rattle.index_rule.specs.declared.view.View.{View}
 use Rattle.index_rule.specs.Hands.{known, opening_of, view}
 use Rattle.index_rule.specs.Rule.{Acts, number}

@@ -11,8 +11,8 @@ use Rattle.index_machine.specs.declared.events.Action.{Action}
 use Rattle.index_machine.specs.declared.events.Event.{Event}
 use Rattle.index_machine.specs.Execution.{Continues, Execution, Without, event}
 use Rattle.index_machine.proofs.Executions.{continues_same, continues_trans, without_append}
-use Rattle.index_rule.specs.declared.tried.Tried.{Tried}
-use Rattle.index_rule.specs.declared.tried.Tried.TheVariants as tried
+use Rattle.tried_calls.specs.declared.tried.Tried.{Tried}
+use Rattle.tried_calls.specs.declared.tried.Tried.TheVariants as tried
 use Rattle.index_rule.specs.Moments.{IsBetween}
 use Rattle.xindex_core.specs.declared.index.Index.{Index}
 use Rattle.xindex_core.specs.declared.pass.Pass.{Pass}

@@ -11,8 +11,8 @@ use Rattle.index_machine.specs.Conditions.{next_epoch}
 use Rattle.index_rule.specs.declared.board.Board.{Board}
 use Rattle.index_rule.specs.declared.hand.Hand.{Hand}
 use Rattle.index_rule.specs.declared.rows.PrivateRow.{PrivateRow}
-use Rattle.index_rule.specs.declared.tried.Tried.{Tried}
-use Rattle.index_rule.specs.declared.tried.Tried.TheVariants as tried
+use Rattle.tried_calls.specs.declared.tried.Tried.{Tried}
+use Rattle.tried_calls.specs.declared.tried.Tried.TheVariants as tried
 use Rattle.index_rule.specs.Hands.{Makes, known}
 use Rattle.point_calls.specs.Exchanges.{ExchangeCounts, MakesFewExchanges}
 use Rattle.point_calls.specs.Exchanges.{no_exchange, one_lock, one_of_each}

@@ -4,10 +4,10 @@ use Rattle.map_model.specs.declared.calls.Call.{Call}
 use Rattle.index_machine.specs.declared.opening.Opening.{Opening}
 use Rattle.index_machine.specs.Execution.{Execution, Without}
 use Rattle.index_machine.specs.Places.{form}
-use Rattle.index_rule.specs.declared.tried.Tried.{Tried}
-use Rattle.index_rule.specs.declared.tried.Tried.TheVariants.{Again}
-use Rattle.index_rule.specs.declared.tried.Why.{Why}
-use Rattle.index_rule.specs.declared.tried.Why.TheVariants.{Frozen}
+use Rattle.tried_calls.specs.declared.tried.Tried.{Tried}
+use Rattle.tried_calls.specs.declared.tried.Tried.TheVariants.{Again}
+use Rattle.tried_calls.specs.declared.tried.Why.{Why}
+use Rattle.tried_calls.specs.declared.tried.Why.TheVariants.{Frozen}
 use Rattle.record_cell.specs.Reads.{IsHeldByAnother}
 use Rattle.xindex_core.specs.declared.index.Index.{Index}
 use Rattle.xindex_core.specs.declared.pass.Pass.{Pass}

@@ -6,9 +6,9 @@ ghost use Rattle.xindex_core.specs.Tries.{Tries};
 
 use crate::index::Index;
 use crate::pass::Pass;
-use index_rule::Tried;
 use point_calls::{get, put, remove};
 use reader_epochs::{enter, leave};
+use tried_calls::Tried;
 
 impl Pass {
     /// The caller's number.

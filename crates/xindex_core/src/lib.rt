@@ -17,7 +17,7 @@ mod telling;
 mod waiter;
 
 pub use index::{Index, OpenError, Opened};
-pub use index_rule::{Note, Tried, Why};
+pub use index_rule::Note;
 pub use keeper::Keeper;
 pub use laws::{
     callers_alone_tell_the_map, callers_share_one_order, calls_alone_have_answers,
@@ -26,4 +26,5 @@ pub use laws::{
 pub use named::{NamedKeeper, NamedPass};
 pub use naming::Name;
 pub use pass::Pass;
+pub use tried_calls::{Tried, Why};
 pub use waiter::Waiter;

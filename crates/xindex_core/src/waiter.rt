@@ -10,10 +10,10 @@ use crate::index::Index;
 use crate::named::NamedKeeper;
 use crate::naming::Name;
 use crate::pass::Pass;
-use index_rule::Tried;
 use map_model::{Answer, Answerer, Call, Near};
 use std::sync::{Mutex, Wait};
 use std::thread;
+use tried_calls::Tried;
 
 /// Answers calls over an index, one after another, by trying each of them until it comes to an answer.
 ///

@@ -1,7 +1,7 @@
 use Rattle.std.proofs.Common.{ℕ, ◌≤◌, Option, Some, None, rules, sym, ◌∙◌, subst, arith}
 use Rattle.index_machine.specs.Openings.{greatest_key}
 use Rattle.index_rule.specs.declared.hand.Hand.{Hand}
-use Rattle.index_rule.specs.declared.tried.Tried.{Tried}
+use Rattle.tried_calls.specs.declared.tried.Tried.{Tried}
 use Rattle.index_rule.specs.Looks.{MayWriteLook}
 use Rattle.point_calls.specs.Getting.{GetTells}
 use Rattle.point_calls.specs.Lookup.{HasMissed}

@@ -5,7 +5,7 @@ use Rattle.index_machine.specs.declared.events.Action.TheVariants.{FailLink, Lin
 use Rattle.index_machine.specs.Rows.{Holds, InBuffer, role, role_key}
 use Rattle.index_machine.specs.Words.{link_behind}
 use Rattle.index_rule.specs.declared.rows.PrivateRow.{PrivateRow}
-use Rattle.index_rule.specs.declared.tried.Tried.{Tried}
+use Rattle.tried_calls.specs.declared.tried.Tried.{Tried}
 use Rattle.index_rule.specs.Hands.{known, opening_of}
 use Rattle.index_rule.specs.OwnRows.{place_of_private}
 use Rattle.delta_buffer.specs.Walks.{load_of_link}

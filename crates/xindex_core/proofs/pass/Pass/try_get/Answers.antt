@@ -1,6 +1,6 @@
 -- What is known inside of the read section is told from outside of it.
 use Rattle.std.proofs.Common.{Option, ℕ, refl, subst}
-use Rattle.index_rule.specs.declared.tried.Tried.{Tried}
+use Rattle.tried_calls.specs.declared.tried.Tried.{Tried}
 use Rattle.point_calls.specs.Getting.{GetTells}
 use Rattle.index_rule.specs.Hands.{opening_of}
 use Rattle.xindex_core.proofs.Sections.{later_is, truthful}
