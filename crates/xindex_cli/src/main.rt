@@ -11,25 +11,29 @@ use xindex::{StandardInput, StandardOutput, Status, xindex};
 fn main(rt: HostRuntime) -> ExitCode {
     let mut source = StandardInput::new(rt.stdin());
     let mut sink = StandardOutput::new(rt.stdout());
-    let status = match words_of(&rt) {
-        Ok(words) => match texts_of(rt.alloc(), &words) {
-            Ok(texts) => xindex(&rt, rt.alloc(), &texts, &mut source, &mut sink).status,
-            Err(_) => Status::Memory,
-        },
-        Err(ErrorKind::OutOfMemory) => Status::Memory,
-        // Words that are no text ask for nothing, as no words do.
-        Err(_) => xindex(&rt, rt.alloc(), &[], &mut source, &mut sink).status,
+    let Ok(words) = words_of(&rt) else {
+        return ExitCode::from(Status::Memory.number());
     };
-    ExitCode::from(status.number())
+    let Ok(texts) = texts_of(rt.alloc(), &words) else {
+        return ExitCode::from(Status::Memory.number());
+    };
+    let outcome = xindex(&rt, rt.alloc(), &texts, &mut source, &mut sink);
+    ExitCode::from(outcome.status.number())
 }
 
-// The words of the command line after the program's name.
+// The words of the command line after the program's name, or want of memory. Words that are no text ask for nothing,
+// as no words do.
 fn words_of<R: Env + AllocGlobal>(rt: &R) -> Result<Vec<String>, ErrorKind> {
-    let words = env::args(rt).map_err(|error| error.kind())?;
-    words
-        .skip(1)
-        .collect(rt.alloc())
-        .map_err(|_| ErrorKind::OutOfMemory)
+    match env::args(rt) {
+        Ok(words) => words
+            .skip(1)
+            .collect(rt.alloc())
+            .map_err(|_| ErrorKind::OutOfMemory),
+        Err(error) => match error.kind() {
+            ErrorKind::OutOfMemory => Err(ErrorKind::OutOfMemory),
+            _ => Ok(Vec::new(rt.alloc())),
+        },
+    }
 }
 
 fn texts_of<'a>(alloc: Global, words: &'a [String]) -> Result<Vec<&'a str>, AllocError> {
