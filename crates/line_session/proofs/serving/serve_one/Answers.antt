@@ -1,9 +1,10 @@
-use Rattle.std.proofs.Common.{◌<◌, ◌≤◌, ◌++◌, length, take, refl, sym, ap, ◌∙◌, arith, lit<, length-append, length-take}
+use Rattle.std.proofs.Common.{◌<◌, ◌≤◌, ◌++◌, length, take, Some, refl, sym, ap, ◌∙◌, arith, lit<, length-append, length-take}
 use Rattle.std.specs.Io.KnownBytes.{prepend_known}
 use Rattle.line_session.specs.declared.ends.Ended.TheVariants as ended
 use Rattle.line_session.specs.Asked.{at_end, after_line}
 use Rattle.line_session.proofs.Known.{took-more, told-more}
-use Rattle.line_session.proofs.Sessions.{limit-by_reply, no_end-by_reply, limit-with_input, cut_off, no_read_fault-with_input}
+use Rattle.line_session.proofs.Counting.{counts-after, counts-for, counts-nothing, bytes_are_no_failure, end_is_no_failure, going_on_is_no_fault, limit_is_no_read_fault, limit_is_no_write_fault, read_fault_is_no_write_fault, ending_is}
+use Rattle.line_session.proofs.Sessions.{limit-by_reply, no_end-by_reply, limit-with_input, cut_off, no_read_fault-with_input, no_read_fault-by_reply}
 use Rattle.line_session.proofs.serving.serve_one.Goals as goal
 
 -- a piece was taken and answered, and the session goes on
@@ -22,8 +23,8 @@ loop-preserved g c =
       told = told-more _ _ _ was.written part.added was.told part.told;
       limit = omega (arith, was.limit, c.in-Bytes.ensures.bytes, c.in-Bytes.ensures.limit, length-take c.in-Bytes.count c.read_piece.new.buffer);
       so_far = part.part _ was.taken was.written was.so_far;
-      read_faults = c.in-Bytes.ensures.faults.same (λ failed. cc) ∙ was.read_faults;
-      write_faults = c.in_default.ensures.faults.same (λ failed. cc) ∙ was.write_faults;
+      read_faults = c.in-Bytes.ensures.faults.same bytes_are_no_failure ∙ was.read_faults;
+      write_faults = c.in_default.ensures.faults.same going_on_is_no_fault ∙ was.write_faults;
     }
 
 -- a line of the piece ended it
@@ -69,7 +70,7 @@ returns-in-End-clause-session g c =
 pub returns-in-End-clause-read_faults : goal.returns-in-End-clause-read_faults
 returns-in-End-clause-read_faults g c = record {
   rose = λ is. absurd (no_read_fault-with_input c.answer_rest.result c.answer_rest.ensures.ends is);
-  same = λ other. c.in-End.ensures.faults.same (λ failed. cc) ∙ c.loop.invariant.read_faults;
+  same = λ other. c.in-End.ensures.faults.same end_is_no_failure ∙ c.loop.invariant.read_faults;
 }
 
 -- the limit was reached, or a read failed
@@ -102,3 +103,28 @@ returns-in-Failed-clause-session g c =
       ended_with_input = λ is. cc;
       conversation = cut_off g.A.Answerer.answers ended.ReadFault tt _ _ was.taken was.written _ was.so_far;
     }
+
+pub returns-then-left-eq0-clause-read_faults : goal.returns-then-left-eq0-clause-read_faults
+returns-then-left-eq0-clause-read_faults g c = counts-nothing _ _ _ limit_is_no_read_fault c.loop.invariant.read_faults
+
+pub returns-then-left-eq0-clause-write_faults : goal.returns-then-left-eq0-clause-write_faults
+returns-then-left-eq0-clause-write_faults g c = counts-nothing _ _ _ limit_is_no_write_fault c.loop.invariant.write_faults
+
+pub returns-in-Failed-clause-read_faults : goal.returns-in-Failed-clause-read_faults
+returns-in-Failed-clause-read_faults g c =
+    counts-for _ _ _ _ (λ _. refl) (λ _. refl) (counts-after _ _ _ _ c.loop.invariant.read_faults c.in-Failed.ensures.faults)
+
+pub returns-in-Failed-clause-write_faults : goal.returns-in-Failed-clause-write_faults
+returns-in-Failed-clause-write_faults g c = counts-nothing _ _ _ read_fault_is_no_write_fault c.loop.invariant.write_faults
+
+pub returns-in-End-clause-write_faults : goal.returns-in-End-clause-write_faults
+returns-in-End-clause-write_faults g c = counts-after _ _ _ _ c.loop.invariant.write_faults c.answer_rest.ensures.faults
+
+pub returns-in-Some-answer_piece-clause-read_faults : goal.returns-in-Some-answer_piece-clause-read_faults
+returns-in-Some-answer_piece-clause-read_faults g c =
+    counts-nothing _ _ _ (no_read_fault-by_reply c.in-Some-answer_piece.ended c.in-Some-answer_piece.ensures.ends)
+    (c.in-Bytes.ensures.faults.same bytes_are_no_failure ∙ c.loop.invariant.read_faults)
+
+pub returns-in-Some-answer_piece-clause-write_faults : goal.returns-in-Some-answer_piece-clause-write_faults
+returns-in-Some-answer_piece-clause-write_faults g c =
+    counts-for _ _ _ _ (λ is. ap (λ how. Some how) is) ending_is (counts-after _ _ _ _ c.loop.invariant.write_faults c.in-Some-answer_piece.ensures.faults)
