@@ -1,5 +1,5 @@
 -- What a read leaves in its buffer, and counts of failures that follow one another.
-use Rattle.std.proofs.Common.{Some, None, ◌≡◌, ℕ, ◌≤◌, List, ◌++◌, length, Option, sym, ap, subst, ◌∙◌, arith, length-append}
+use Rattle.std.proofs.Common.{◌≢◌, ◌+◌, ◌-◌, ◌<◌, length-take, take, Some, None, ◌≡◌, ℕ, ◌≤◌, List, ◌++◌, length, Option, sym, ap, subst, ◌∙◌, arith, length-append}
 use Rattle.std.specs.Io.KnownBytes.{prepend_known}
 use Rattle.std.proofs.lemmas.List.{take-append-le}
 use Rattle.line_session.specs.declared.ends.Took.{Took}
@@ -67,3 +67,27 @@ read_fault_is_no_write_fault is = cc
 -- an ending is the same ending
 pub ending_is : {how other : Ended} → Some how ≡ Some other → how ≡ other
 ending_is is = cc
+
+-- a piece was taken: so much is left of the limit, and so many bytes of the piece can be dropped
+pub limit-more : (taken buffer : List ℕ) (n left most : ℕ) → length taken + left ≡ most
+    → n ≤ length buffer → n ≤ left → length (taken ++ take n buffer) + (left - n) ≡ most
+limit-more taken buffer n left most limit inside within =
+    omega (arith, length-append taken (take n buffer), length-take n buffer)
+
+pub taken-within : (taken buffer : List ℕ) (n left most : ℕ) → length taken + left ≡ most
+    → n ≤ length buffer → n ≤ left → length (taken ++ take n buffer) ≤ most
+taken-within taken buffer n left most limit inside within =
+    omega (arith, length-append taken (take n buffer), length-take n buffer)
+
+pub few-dropped : (buffer : List ℕ) (n dropped : ℕ) → 1 ≤ n → n ≤ length buffer → length buffer ≡ 4096
+    → (0 < length (take n buffer) → dropped < length (take n buffer)) → dropped < 4096
+few-dropped buffer n dropped some inside long few =
+    let length_is = length-take n buffer in
+    let below = few (omega arith) in omega arith
+
+-- the limit was reached, or was not
+pub limit-reached : (taken left most : ℕ) → taken + left ≡ most → left ≡ 0 → taken ≡ most
+limit-reached taken left most limit none = omega arith
+
+pub limit-ahead : (taken left most : ℕ) → taken + left ≡ most → left ≢ 0 → taken < most
+limit-ahead taken left most limit some = omega arith
