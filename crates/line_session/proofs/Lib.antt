@@ -1,4 +1,5 @@
 pub mod Known
+pub mod Counting
 pub mod Sessions
 pub mod OneText
 pub mod Carrying

@@ -5,7 +5,7 @@
 use crate::Value;
 
 /// A change of the map, with the caller that made it.
-#[derive(Clone, Copy, Debug, PartialEq, Eq)]
+#[derive(Clone, Copy)]
 pub enum Change {
     Put { caller: u32, key: u64, value: Value },
     Remove { caller: u32, key: u64 },
@@ -14,7 +14,7 @@ pub enum Change {
 /// What an answered call leaves in its caller's log.
 ///
 /// `place` is the number of changes that stand before the entry: the linearization point of its call.
-#[derive(Clone, Copy, Debug, PartialEq, Eq)]
+#[derive(Clone, Copy)]
 pub enum Entry {
     /// A change was made at this place of the history, where its key had the value `old`.
     Made {

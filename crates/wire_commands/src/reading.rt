@@ -31,10 +31,7 @@ pub fn read_line(line: &[u8]) -> Request
 pub fn without_return(line: &[u8]) -> &[u8]
     ensures { DropsReturn line.now result.now }
 {
-    match line {
-        [front @ .., b'\r'] => front,
-        _ => line,
-    }
+    line.strip_suffix(b"\r").unwrap_or(line)
 }
 
 /// Reads a line of which each byte counts.
