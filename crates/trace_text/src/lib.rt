@@ -13,4 +13,4 @@ pub use appending::{append_number, append_pair, append_reply};
 pub use laws::{each_text_has_its_lines, no_line_says_two_things};
 pub use lines::{Line, read_trace_line};
 pub use traces::{TraceError, read_trace};
-pub use transcripts::{append_caller, append_rows};
+pub use transcripts::{append_caller, append_phase, append_rows};

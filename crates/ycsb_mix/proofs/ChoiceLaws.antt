@@ -4,19 +4,16 @@ use Rattle.std.specs.List.{range_with_len, sum_by}
 use Rattle.std.proofs.Math.Nat.{div-le_self}
 use Rattle.std.proofs.lemmas.Bool.Decides.{nat_tests}
 use Rattle.std.proofs.lemmas.List.FromFn.{length-range_with_len, get_or-range_with_len, get_or-map-range_with_len, length-map-range_with_len, map-range_with_len_more}
-use Rattle.std.proofs.lemmas.List.{get_or_default, map-id}
+use Rattle.std.proofs.lemmas.List.{get_or_default}
 use Rattle.std.proofs.lemmas.List.Sums.{position_or_len_is, sum_by_push}
+use Rattle.trace_text.proofs.TextLaws.{range_more}
 use Rattle.ycsb_mix.specs.Choice.{weight_of, weights_below, rank_at, IsTable}
 
 -- the weights below the next rank
 pub weights_below-more : (rank : ℕ) → weights_below (rank + 1) ≡ weights_below rank + weight_of rank
 unfolding weights_below
 weights_below-more rank =
-    let counted = map-id (range_with_len 0 rank) in
-    let more : range_with_len 0 (rank + 1) ≡ range_with_len 0 rank ++ rank ∷ [] =
-    sym (map-id (range_with_len 0 (rank + 1)))
-    ∙ map-range_with_len_more (λ i. i) 0 rank rank (omega arith) ∙ ap (λ l. l ++ rank ∷ []) counted in
-    ap (sum_by weight_of) more ∙ sum_by_push weight_of (range_with_len 0 rank) rank
+    ap (sum_by weight_of) (range_more rank) ∙ sum_by_push weight_of (range_with_len 0 rank) rank
 
 -- no weights stand below the first rank
 pub weights_below-zero : weights_below 0 ≡ 0

@@ -1,11 +1,11 @@
 -- The steps of one caller, number by number.
 use Rattle.std.proofs.Common.{◌≡◌, ◌≢◌, ℕ, ◌+◌, ◌-◌, ◌%◌, ◌<◌, ◌≤◌, Bool, true, false, cond, List, [], ◌∷◌, ◌++◌, length, map, refl, sym, ap, ◌∙◌, append_assoc, arith}
 use Rattle.std.specs.List.{filter, flat_map, range_with_len}
-use Rattle.std.proofs.lemmas.List.{append-nil, map-id, map-append, length-append, get_or_append_left, flat_map_more}
+use Rattle.std.proofs.lemmas.List.{append-nil, map-append, length-append, get_or_append_left, flat_map_more}
 use Rattle.std.proofs.lemmas.List.Elements.{filter-append}
-use Rattle.std.proofs.lemmas.List.FromFn.{length-range_with_len, get_or-range_with_len, map-range_with_len_more}
+use Rattle.std.proofs.lemmas.List.FromFn.{length-range_with_len, get_or-range_with_len}
 use Rattle.trace_text.specs.Text.{headed}
-use Rattle.trace_text.proofs.TextLaws.{headed-some, append-some}
+use Rattle.trace_text.proofs.TextLaws.{headed-some, append-some, range_more}
 use Rattle.ycsb_mix.specs.declared.mixes.Step.{Step}
 use Rattle.ycsb_mix.specs.declared.mixes.Step.TheVariants as step
 use Rattle.ycsb_mix.specs.declared.drawing.Kind.{Kind}
@@ -114,12 +114,6 @@ late_one-loaded load rank own past within =
     get_or_append_left (range_with_len 0 load) own 0 place
     (omega (arith, length-range_with_len 0 load, inside))
     ∙ get_or-range_with_len 0 load place 0 inside ∙ omega (arith, long)
-
--- one more number, counted from 0
-range_more : (n : ℕ) → range_with_len 0 (n + 1) ≡ range_with_len 0 n ++ n ∷ []
-range_more n =
-    sym (map-id (range_with_len 0 (n + 1))) ∙ map-range_with_len_more (λ i. i) 0 n n (omega arith)
-    ∙ ap (λ l. l ++ n ∷ []) (map-id (range_with_len 0 n))
 
 -- one more caller's steps were written
 pub callers_more : (steps : ℕ → List Step) (caller : ℕ) (old mid new : List Step)
