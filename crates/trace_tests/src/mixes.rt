@@ -4,9 +4,8 @@
 use line_session::BytesSink;
 use std::alloc::Global;
 use std::test::Fail;
-use trace_text::{Line, read_trace};
-use wire_commands::Request;
-use ycsb_mix::{Mix, MixError, Step, mix_steps, write_mix};
+use trace_text::read_trace;
+use ycsb_mix::{Mix, MixError, Step, mix_lines, mix_steps, write_mix};
 
 /// A mix, its load, operations and callers, its seed and the lines of its text.
 type Row<'a> = (Mix, [u32; 3], u64, &'a [&'a [u8]]);
@@ -174,29 +173,12 @@ fn written(alloc: Global, mix: Mix, numbers: [u32; 3], seed: u64) -> Result<Byte
 }
 
 #[test]
-fn a_trace_is_read_as_its_steps(rt: HostRuntime) -> Result<(), Fail> {
-    for mix in [Mix::A, Mix::B, Mix::C, Mix::D, Mix::F] {
-        let steps = mix_steps(rt.alloc(), mix, 9, 70, 4, 3)?;
-        let sink = written(rt.alloc(), mix, [9, 70, 4], 3)?;
-        let mut said = Vec::new(rt.alloc());
-        for &step in &steps {
-            said.push(line_of(step))?;
-        }
-        let lines = read_trace(rt.alloc(), sink.bytes(), 4);
-        assert_eq!(rt; lines.ok().as_deref(), Some(&said[..]), "{mix:?}");
-    }
+fn a_trace_is_read_as_the_lines_of_its_mix(rt: HostRuntime) -> Result<(), Fail> {
+    let sink = written(rt.alloc(), Mix::F, [9, 70, 4], 3)?;
+    let read = read_trace(rt.alloc(), sink.bytes(), 4);
+    let lines = mix_lines(rt.alloc(), Mix::F, 9, 70, 4, 3)?;
+    assert_eq!(rt; read.ok().as_deref(), Some(&lines[..]));
     Ok(())
-}
-
-/// What the line of a step says. Traces have no scans yet.
-fn line_of(step: Step) -> Line {
-    match step {
-        Step::Phase => Line::Phase,
-        Step::Caller(caller) => Line::Caller(caller),
-        Step::Get { key } => Line::Call(Request::Get { key }),
-        Step::Put { key, value } => Line::Call(Request::Put { key, value }),
-        Step::Scan { .. } => Line::Skip,
-    }
 }
 
 #[test]

@@ -17,7 +17,7 @@ use Rattle.trace_text.specs.Laws.{WritesLine, WrittenIsRead}
 use Rattle.trace_text.proofs.TextLaws.{append-some}
 
 -- both parts have a property
-both_have : {X : Type 0} (P : X → Type 0) (xs ys : List X) → AllByRecursion P xs
+pub both_have : {X : Type 0} (P : X → Type 0) (xs ys : List X) → AllByRecursion P xs
     → AllByRecursion P ys → AllByRecursion P (xs ++ ys)
 both_have P [] ys front back = back
 both_have P (x ∷ xs) ys front back = (front.0, both_have P xs ys front.1 back)

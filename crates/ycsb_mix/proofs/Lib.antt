@@ -3,3 +3,4 @@ pub mod ChoiceLaws
 pub mod DrawLaws
 pub mod StepLaws
 pub mod WritingLaws
+pub mod LineLaws

@@ -2,6 +2,9 @@
 use Rattle.std.specs.Prelude.{ℕ, ◌+◌, ◌-◌, ◌*◌, ◌%◌, ◌^◌, ◌==◌, Bool, true, false}
 use Rattle.std.specs.Prelude.{List, [], ◌∷◌, ◌++◌, length, get_or, map, codes}
 use Rattle.std.specs.List.{filter, flat_map, range_with_len}
+use Rattle.wire_commands.specs.declared.request.Request.TheVariants as request
+use Rattle.trace_text.specs.declared.lines.Line.{Line}
+use Rattle.trace_text.specs.declared.lines.Line.TheVariants as line
 use Rattle.trace_text.specs.Text.{number_line, pair_line, headed}
 use Rattle.ycsb_mix.specs.declared.mixes.Mix.{Mix}
 use Rattle.ycsb_mix.specs.declared.mixes.Step.{Step}
@@ -90,3 +93,11 @@ line_of (step.Scan from count) = pair_line (codes "scan ") from count
 -- the text of a mix
 abbrev pub text_of : Mix → ℕ → ℕ → ℕ → ℕ → List ℕ
 text_of mix load ops callers seed = flat_map line_of (steps_of mix load ops callers seed)
+
+-- what the line of a step says; a scan is no call of a trace yet
+abbrev pub said_by : Step → Line
+said_by step.Phase = line.Phase
+said_by (step.Caller caller) = line.Caller caller
+said_by (step.Get key) = line.Call (request.Get key)
+said_by (step.Put key value) = line.Call (request.Put key value)
+said_by (step.Scan from count) = line.Skip

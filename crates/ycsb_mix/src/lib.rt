@@ -5,10 +5,12 @@
 
 mod choice;
 mod drawing;
+mod lines;
 mod mixes;
 mod steps;
 mod writing;
 
+pub use lines::mix_lines;
 pub use mixes::{Mix, MixError, Step};
 pub use steps::mix_steps;
 pub use writing::write_mix;
