@@ -1,4 +1,5 @@
-//! The tests of the crates that stand on nothing shared: maps, lines of keys, plans, words, requests and traces.
+//! The tests of the crates that stand on nothing shared: maps, lines of keys, plans, words, requests,
+//! traces and mixes.
 //!
 //! They stand in a crate of their own, since others stand on those crates and a crate with tests is proved twice.
 //! Nothing stands on this one.
@@ -10,6 +11,8 @@ mod counted_keys;
 mod lines;
 #[cfg(test)]
 mod maps;
+#[cfg(test)]
+mod mixes;
 #[cfg(test)]
 mod plans;
 #[cfg(test)]

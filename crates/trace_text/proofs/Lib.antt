@@ -2,3 +2,4 @@ pub mod LineLaws
 pub mod TraceLaws
 pub mod TextLaws
 pub mod TranscriptLaws
+pub mod WrittenLaws

@@ -1,7 +1,8 @@
 //! What holds of all texts and all lines.
 //!
 //! The functions do nothing: each has a law for its contract, and so the check proves the law.
-ghost use Rattle.trace_text.specs.Laws.{TextsHaveLines, LinesSayOneThing};
+ghost use Rattle.std.specs.Prelude.{ℕ};
+ghost use Rattle.trace_text.specs.Laws.{TextsHaveLines, LinesSayOneThing, WrittenIsRead};
 
 /// A text is cut into lines in one way.
 pub fn each_text_has_its_lines()
@@ -11,4 +12,9 @@ pub fn each_text_has_its_lines()
 /// What a line says is settled by its bytes and the number of callers.
 pub fn no_line_says_two_things()
     ensures { LinesSayOneThing }
+{}
+
+/// Marks and calls that are written as lines are read as they were written.
+pub fn written_lines_are_read()
+    ensures { (callers : ℕ) → WrittenIsRead callers }
 {}

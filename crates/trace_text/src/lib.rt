@@ -10,7 +10,7 @@ mod traces;
 mod transcripts;
 
 pub use appending::{append_number, append_pair, append_reply};
-pub use laws::{each_text_has_its_lines, no_line_says_two_things};
+pub use laws::{each_text_has_its_lines, no_line_says_two_things, written_lines_are_read};
 pub use lines::{Line, read_trace_line};
 pub use traces::{TraceError, read_trace};
-pub use transcripts::{append_caller, append_rows};
+pub use transcripts::{append_caller, append_phase, append_rows};

@@ -1,0 +1,396 @@
+-- Lines that are written of a keyword and numbers are read back.
+use Rattle.std.proofs.Common.{◌≡◌, ◌≢◌, ℕ, ◌+◌, ◌-◌, ◌*◌, ◌/◌, ◌%◌, ◌^◌, ◌<◌, ◌≤◌, List, [], ◌∷◌, ◌++◌, length, codes, refl, sym, ap, subst, inl, inr, ◌∙◌, append_assoc, arith}
+use Rattle.std.specs.Fmt.{decimal}
+use Rattle.std.specs.List.{AllByRecursion}
+use Rattle.std.proofs.lemmas.Fmt.{decimal_by_steps, length-decimal-le}
+use Rattle.std.proofs.lemmas.List.{append-nil, length-append}
+use Rattle.wire_commands.specs.declared.request.Request.TheVariants.{Get, Put, Remove}
+use Rattle.wire_commands.specs.Words.{IsBlank, IsWord, HasWords}
+use Rattle.wire_commands.specs.Numbers.{IsDigit, IsNumber, value_of}
+use Rattle.wire_commands.specs.Stream.{HasNoNewline}
+use Rattle.wire_commands.specs.Grammar.{greatest_number, longest, AreNumbers, DropsReturn}
+use Rattle.wire_commands.proofs.Spans.{second_part_has, push_has}
+use Rattle.wire_commands.proofs.NumberLaws.{value_of-append}
+use Rattle.trace_text.specs.declared.lines.Line.TheVariants.{Phase, Caller, Call}
+use Rattle.trace_text.specs.Lines.{IsSkipped, Fits, Says}
+use Rattle.trace_text.specs.Laws.{WritesLine, WrittenIsRead}
+use Rattle.trace_text.proofs.TextLaws.{append-some}
+
+-- both parts have a property
+pub both_have : {X : Type 0} (P : X → Type 0) (xs ys : List X) → AllByRecursion P xs
+    → AllByRecursion P ys → AllByRecursion P (xs ++ ys)
+both_have P [] ys front back = back
+both_have P (x ∷ xs) ys front back = (front.0, both_have P xs ys front.1 back)
+
+-- what has a property has one that follows
+all_weaker : {X : Type 0} (P Q : X → Type 0) (xs : List X) → ((x : X) → P x → Q x)
+    → AllByRecursion P xs → AllByRecursion Q xs
+all_weaker P Q [] follows all = tt
+all_weaker P Q (x ∷ xs) follows all = (follows x all.0, all_weaker P Q xs follows all.1)
+
+-- these digits are a number with this value
+record IsWritten (n : ℕ) (written : List ℕ) : Type 0 where
+  pub number : IsNumber written
+  pub value : value_of written ≡ n
+
+-- one digit
+written_digit : (n : ℕ) → n < 10 → IsWritten n ((48 + n) ∷ [])
+written_digit n small = record {
+  number = (λ e. absurd (cc e), ((omega arith, omega arith), tt));
+  value = omega arith;
+}
+
+-- one more digit
+written_more : (n : ℕ) (front : List ℕ) → 10 ≤ n → IsWritten (n / 10) front
+    → IsWritten n (front ++ ((48 + n % 10) ∷ []))
+written_more n front large written = record {
+  number = (
+    append-some front ((48 + n % 10) ∷ []) (λ e. absurd (cc e)),
+    push_has IsDigit front (48 + n % 10) written.number.1 (omega arith, omega arith),
+  );
+  value =
+      value_of-append front ((48 + n % 10) ∷ [])
+      ∙ omega (arith, written.value);
+}
+
+-- a number is written by its digits
+is_written : (n : ℕ) → n < 2 ^ 64 → IsWritten n (decimal n)
+is_written n small = decimal_by_steps IsWritten written_digit written_more n small
+
+-- a digit is no blank
+digit_no_blank : (byte : ℕ) → IsDigit byte → ¬ (IsBlank byte)
+digit_no_blank byte digit (inl space) = absurd (omega (arith, space, digit.0))
+digit_no_blank byte digit (inr tab) = absurd (omega (arith, tab, digit.0))
+
+-- a number is a word
+number_is_word : (written : List ℕ) → IsNumber written → IsWord written
+number_is_word written number =
+    (number.0, all_weaker IsDigit (λ b. ¬ (IsBlank b)) written digit_no_blank number.1)
+
+-- a byte that is printed
+abbrev IsPrinted : ℕ → Type 0
+IsPrinted byte = 32 ≤ byte
+
+-- a small letter
+abbrev IsLetter : ℕ → Type 0
+IsLetter byte = 97 ≤ byte
+
+-- a letter is no blank
+letter_no_blank : (byte : ℕ) → IsLetter byte → ¬ (IsBlank byte)
+letter_no_blank byte letter (inl space) = absurd (omega (arith, space, letter))
+letter_no_blank byte letter (inr tab) = absurd (omega (arith, tab, letter))
+
+-- letters are a word
+letters_are_word : (first : ℕ) (letters : List ℕ) → AllByRecursion IsLetter (first ∷ letters)
+    → IsWord (first ∷ letters)
+letters_are_word first letters all =
+    (λ e. absurd (cc e), all_weaker IsLetter (λ b. ¬ (IsBlank b)) (first ∷ letters) letter_no_blank all)
+
+-- letters are printed
+letters_printed : (letters : List ℕ) → AllByRecursion IsLetter letters
+    → AllByRecursion IsPrinted letters
+letters_printed letters all = all_weaker IsLetter IsPrinted letters (λ b letter. omega (arith, letter)) all
+
+-- a number is printed
+number_printed : (written : List ℕ) → IsNumber written → AllByRecursion IsPrinted written
+number_printed written number =
+    all_weaker IsDigit IsPrinted written (λ b digit. omega (arith, digit.0)) number.1
+
+-- what is printed has no newline
+printed_one_line : (whole : List ℕ) → AllByRecursion IsPrinted whole → HasNoNewline whole
+printed_one_line whole printed =
+    all_weaker IsPrinted (λ b. b ≢ 10) whole (λ b is e. absurd (omega (arith, is, e))) printed
+
+-- what is printed ends in no carriage return
+printed_drops_none : (whole : List ℕ) → AllByRecursion IsPrinted whole → DropsReturn whole whole
+printed_drops_none whole printed =
+    inr (
+      refl,
+      λ front e.
+          let last : AllByRecursion IsPrinted (13 ∷ []) =
+          second_part_has IsPrinted front (13 ∷ []) (subst (AllByRecursion IsPrinted) e printed) in
+          absurd (omega (arith, last.0)),
+    )
+
+-- a line that begins with a letter has a word
+not_blank : (first : ℕ) (rest line : List ℕ) → IsLetter first → DropsReturn (first ∷ rest) line
+    → ¬ (AllByRecursion IsBlank line)
+not_blank first rest [] letter (inl e) blank = let same : first ≡ 13 = cc in absurd (omega arith)
+not_blank first rest [] letter (inr e) blank = let none = e.0 in absurd (cc none)
+not_blank first rest (x ∷ xs) letter (inl e) blank =
+    let same : first ≡ x = cc in letter_no_blank x (subst IsLetter same letter) blank.0
+not_blank first rest (x ∷ xs) letter (inr e) blank =
+    let whole = e.0 in
+    let same : first ≡ x = cc in letter_no_blank x (subst IsLetter same letter) blank.0
+
+-- a line that begins with a letter is not skipped
+not_skipped : (first : ℕ) (rest : List ℕ) → IsLetter first → ¬ (IsSkipped (first ∷ rest))
+not_skipped first rest letter (inl hash) =
+    let is = hash.1 in
+    let same : first ≡ 35 = cc in absurd (omega arith)
+not_skipped first rest letter (inr has) = not_blank first rest has.line letter has.dropped has.has
+
+-- a short line fits
+fits_short : (whole : List ℕ) → length whole ≤ longest → Fits whole
+fits_short whole short line (inl e) = omega (arith, ap length e, length-append line (13 ∷ []))
+fits_short whole short line (inr e) = omega (arith, ap length e.0)
+
+-- a number at the end of a line
+last_word : (written : List ℕ) → IsNumber written → HasWords (32 ∷ written) (written ∷ [])
+last_word written number = (
+  [],
+  record {
+    blanks = 32 ∷ [];
+    line_is = ap (λ l. 32 ∷ l) (sym (append-nil written));
+    all_blank = (inl refl, tt);
+    is_word = number_is_word written number;
+    ends = tt;
+  },
+  tt,
+)
+
+-- a number before another one
+next_word : (written rest : List ℕ) (words : List (List ℕ)) → IsNumber written
+    → HasWords (32 ∷ rest) words → HasWords (32 ∷ (written ++ 32 ∷ rest)) (written ∷ words)
+next_word written rest words number has = (
+  32 ∷ rest,
+  record {
+    blanks = 32 ∷ [];
+    line_is = refl;
+    all_blank = (inl refl, tt);
+    is_word = number_is_word written number;
+    ends = inl refl;
+  },
+  has,
+)
+
+-- a keyword before numbers
+first_word : (first : ℕ) (letters rest : List ℕ) (words : List (List ℕ))
+    → AllByRecursion IsLetter (first ∷ letters) → HasWords (32 ∷ rest) words
+    → HasWords (first ∷ (letters ++ 32 ∷ rest)) ((first ∷ letters) ∷ words)
+first_word first letters rest words all has = (
+  32 ∷ rest,
+  record {
+    blanks = [];
+    line_is = refl;
+    all_blank = tt;
+    is_word = letters_are_word first letters all;
+    ends = inl refl;
+  },
+  has,
+)
+
+-- one number is within its limit
+one_number : (n : ℕ) → n < 2 ^ 64 → AreNumbers (greatest_number ∷ []) (decimal n ∷ []) (n ∷ [])
+one_number n small =
+    let written = is_written n small in
+    record {
+      each = (written.number, tt);
+      within = (omega (arith, written.value), tt);
+      values_are = ap (λ v. v ∷ []) written.value;
+    }
+
+-- two numbers are within their limits
+two_numbers : (m n : ℕ) → m < 2 ^ 64 → n < 2 ^ 64
+    → AreNumbers (greatest_number ∷ greatest_number ∷ []) (decimal m ∷ decimal n ∷ []) (m ∷ n ∷ [])
+two_numbers m n m_small n_small =
+    let first = is_written m m_small in
+    let second = is_written n n_small in
+    record {
+      each = (first.number, (second.number, tt));
+      within = (omega (arith, first.value), (omega (arith, second.value), tt));
+      values_are =
+          ap (λ v. v ∷ value_of (decimal n) ∷ []) first.value ∙ ap (λ v. m ∷ v ∷ []) second.value;
+    }
+
+-- a keyword and a number are printed
+one_printed : (letters : List ℕ) (n : ℕ) → n < 2 ^ 64 → AllByRecursion IsLetter letters
+    → AllByRecursion IsPrinted (letters ++ 32 ∷ decimal n)
+one_printed letters n small all =
+    both_have IsPrinted letters (32 ∷ decimal n) (letters_printed letters all)
+    (omega arith, number_printed (decimal n) (is_written n small).number)
+
+-- the letters of the keywords
+get_letters : AllByRecursion IsLetter (codes "get")
+get_letters = (omega arith, (omega arith, (omega arith, tt)))
+
+put_letters : AllByRecursion IsLetter (codes "put")
+put_letters = (omega arith, (omega arith, (omega arith, tt)))
+
+remove_letters : AllByRecursion IsLetter (codes "remove")
+remove_letters =
+    (omega arith, (omega arith, (omega arith, (omega arith, (omega arith, (omega arith, tt))))))
+
+caller_letters : AllByRecursion IsLetter (codes "caller")
+caller_letters =
+    (omega arith, (omega arith, (omega arith, (omega arith, (omega arith, (omega arith, tt))))))
+
+phase_letters : AllByRecursion IsLetter (codes "phase")
+phase_letters = (omega arith, (omega arith, (omega arith, (omega arith, (omega arith, tt)))))
+
+-- a number has at most 20 digits
+length_number : (n : ℕ) → n < 2 ^ 64 → length (decimal n) ≤ 20
+length_number n small = length-decimal-le 20 n (omega arith) (omega arith) small
+
+-- a get is read as one
+get_says : (callers key : ℕ) → key < 2 ^ 64 → Says callers (codes "get" ++ 32 ∷ decimal key) (Call (Get key))
+get_says callers key small =
+    let whole = codes "get" ++ 32 ∷ decimal key in (
+      not_skipped 103 (codes "et" ++ 32 ∷ decimal key) (omega arith),
+      record {
+        line = whole;
+        dropped = printed_drops_none whole (one_printed (codes "get") key small get_letters);
+        is_request = (
+          codes "get" ∷ decimal key ∷ [],
+          first_word 103 (codes "et") (decimal key) (decimal key ∷ []) get_letters
+              (last_word (decimal key) (is_written key small).number),
+          record {
+            fits = omega (arith, length_number key small);
+            others = decimal key ∷ [];
+            keyword = refl;
+            numbers = one_number key small;
+          },
+        );
+      },
+      tt,
+    )
+
+-- a remove is read as one
+remove_says : (callers key : ℕ) → key < 2 ^ 64 → Says callers (codes "remove" ++ 32 ∷ decimal key) (Call (Remove key))
+remove_says callers key small =
+    let whole = codes "remove" ++ 32 ∷ decimal key in (
+      not_skipped 114 (codes "emove" ++ 32 ∷ decimal key) (omega arith),
+      record {
+        line = whole;
+        dropped = printed_drops_none whole (one_printed (codes "remove") key small remove_letters);
+        is_request = (
+          codes "remove" ∷ decimal key ∷ [],
+          first_word 114 (codes "emove") (decimal key) (decimal key ∷ []) remove_letters
+              (last_word (decimal key) (is_written key small).number),
+          record {
+            fits = omega (arith, length_number key small);
+            others = decimal key ∷ [];
+            keyword = refl;
+            numbers = one_number key small;
+          },
+        );
+      },
+      tt,
+    )
+
+-- a keyword and two numbers are printed
+two_printed : (letters : List ℕ) (m n : ℕ) → m < 2 ^ 64 → n < 2 ^ 64
+    → AllByRecursion IsLetter letters
+    → AllByRecursion IsPrinted (letters ++ 32 ∷ (decimal m ++ 32 ∷ decimal n))
+two_printed letters m n m_small n_small all =
+    both_have IsPrinted letters (32 ∷ (decimal m ++ 32 ∷ decimal n)) (letters_printed letters all) (
+      omega arith,
+      both_have IsPrinted (decimal m) (32 ∷ decimal n)
+          (number_printed (decimal m) (is_written m m_small).number)
+          (omega arith, number_printed (decimal n) (is_written n n_small).number),
+    )
+
+-- a put is read as one
+put_says : (callers key value : ℕ) → key < 2 ^ 64 → value < 2 ^ 64
+    → Says callers (codes "put" ++ 32 ∷ (decimal key ++ 32 ∷ decimal value)) (Call (Put key value))
+put_says callers key value small value_small =
+    let rest = decimal key ++ 32 ∷ decimal value in
+    let whole = codes "put" ++ 32 ∷ rest in (
+      not_skipped 112 (codes "ut" ++ 32 ∷ rest) (omega arith),
+      record {
+        line = whole;
+        dropped = printed_drops_none whole (two_printed (codes "put") key value small value_small put_letters);
+        is_request = (
+          codes "put" ∷ decimal key ∷ decimal value ∷ [],
+          first_word 112 (codes "ut") rest (decimal key ∷ decimal value ∷ []) put_letters
+              (next_word (decimal key) (decimal value) (decimal value ∷ []) (is_written key small).number
+              (last_word (decimal value) (is_written value value_small).number)),
+          record {
+            fits = omega (
+              arith,
+              length_number key small,
+              length_number value value_small,
+              length-append (decimal key) (32 ∷ decimal value),
+            );
+            others = decimal key ∷ decimal value ∷ [];
+            keyword = refl;
+            numbers = two_numbers key value small value_small;
+          },
+        );
+      },
+      tt,
+    )
+
+-- a caller's mark is read as one
+caller_says : (callers caller : ℕ) → caller < callers → caller < 2 ^ 64
+    → Says callers (codes "caller" ++ 32 ∷ decimal caller) (Caller caller)
+caller_says callers caller below small =
+    let whole = codes "caller" ++ 32 ∷ decimal caller in (
+      not_skipped 99 (codes "aller" ++ 32 ∷ decimal caller) (omega arith),
+      fits_short whole (omega (arith, length_number caller small)),
+      (
+        decimal caller,
+        record {
+          line = whole;
+          dropped = printed_drops_none whole (one_printed (codes "caller") caller small caller_letters);
+          has = first_word 99 (codes "aller") (decimal caller) (decimal caller ∷ []) caller_letters
+              (last_word (decimal caller) (is_written caller small).number);
+        },
+        record {
+          number = (is_written caller small).number;
+          value = (is_written caller small).value;
+          below = below;
+        },
+      ),
+    )
+
+-- a phase's mark is read as one
+phase_says : (callers : ℕ) → Says callers (codes "phase") Phase
+phase_says callers = (
+  not_skipped 112 (codes "hase") (omega arith),
+  fits_short (codes "phase") (omega arith),
+  record {
+    line = codes "phase";
+    dropped = printed_drops_none (codes "phase") (letters_printed (codes "phase") phase_letters);
+    has = (
+      [],
+      record {
+        blanks = [];
+        line_is = refl;
+        all_blank = tt;
+        is_word = letters_are_word 112 (codes "hase") phase_letters;
+        ends = tt;
+      },
+      tt,
+    );
+  },
+)
+
+-- what is written is read
+pub written_is_read : (callers : ℕ) → WrittenIsRead callers
+written_is_read callers = record {
+  phase =
+      let printed = letters_printed (codes "phase") phase_letters in
+      (codes "phase", printed_one_line (codes "phase") printed, refl, phase_says callers);
+  caller = λ caller below small.
+      let whole = codes "caller" ++ 32 ∷ decimal caller in
+      let printed = one_printed (codes "caller") caller small caller_letters in
+      (whole, printed_one_line whole printed, refl, caller_says callers caller below small);
+  get = λ key small.
+      let whole = codes "get" ++ 32 ∷ decimal key in
+      let printed = one_printed (codes "get") key small get_letters in
+      (whole, printed_one_line whole printed, refl, get_says callers key small);
+  put = λ key value small value_small.
+      let whole = codes "put" ++ 32 ∷ (decimal key ++ 32 ∷ decimal value) in
+      let printed = two_printed (codes "put") key value small value_small put_letters in (
+        whole,
+        printed_one_line whole printed,
+        ap (λ l. codes "put" ++ 32 ∷ l ++ 10 ∷ [])
+            (append_assoc (decimal key) (32 ∷ []) (decimal value)),
+        put_says callers key value small value_small,
+      );
+  remove = λ key small.
+      let whole = codes "remove" ++ 32 ∷ decimal key in
+      let printed = one_printed (codes "remove") key small remove_letters in
+      (whole, printed_one_line whole printed, refl, remove_says callers key small);
+}
