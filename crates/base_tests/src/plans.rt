@@ -1,5 +1,5 @@
-//! The numbers of a rebuild: groups, shares and slots, and when a group is due or merges.
-use rebuild_plan::{can_merge, groups_for, is_due, root_step, share};
+//! The numbers of a rebuild: groups, shares, lanes and slots, and when a group is due or merges.
+use rebuild_plan::{can_merge, groups_for, is_due, lane_width, lanes_for, root_step, share};
 
 #[test]
 fn a_group_is_due_from_so_many_rows_on(rt: HostRuntime) {
@@ -142,5 +142,56 @@ fn the_slots_of_a_root_name_groups_at_equal_steps(rt: HostRuntime) {
             count,
             "{groups} groups, {slots} slots"
         );
+    }
+}
+
+#[test]
+fn a_group_has_at_most_eight_lanes_of_one_width(rt: HostRuntime) {
+    let table = [
+        (0, 1, 1),
+        (1, 1, 1),
+        (6, 1, 6),
+        (8, 1, 8),
+        (9, 2, 5),
+        (16, 2, 8),
+        (17, 3, 6),
+        (192, 24, 8),
+        (768, 96, 8),
+        (u64::MAX, 2_305_843_009_213_693_952, 8),
+    ];
+    for (records, width, lanes) in table {
+        assert_eq!(rt; lane_width(records), width, "{records} records");
+        assert_eq!(rt; lanes_for(records), lanes, "{records} records");
+    }
+}
+
+#[test]
+fn a_later_lane_is_cut_at_the_key_of_its_first_record(rt: HostRuntime) {
+    let table = [
+        (0, [].as_slice(), [0].as_slice()),
+        (
+            0,
+            [10, 20, 30, 40, 50, 60].as_slice(),
+            [0, 20, 30, 40, 50, 60].as_slice(),
+        ),
+        (
+            3,
+            [5, 6, 7, 8, 9, 10, 11, 12, 13].as_slice(),
+            [3, 7, 9, 11, 13].as_slice(),
+        ),
+    ];
+    for (pivot, keys, cuts) in table {
+        let records = keys.len() as u64;
+        let width = lane_width(records) as usize;
+        assert_eq!(rt;
+            lanes_for(records) as usize,
+            cuts.len(),
+            "{records} records"
+        );
+        for (lane, cut) in cuts.iter().enumerate() {
+            let first = keys.get(width.saturating_mul(lane)).copied();
+            let begin = if lane == 0 { Some(pivot) } else { first };
+            assert_eq!(rt; begin, Some(*cut), "lane {lane} of {records} records");
+        }
     }
 }

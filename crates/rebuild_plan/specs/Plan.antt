@@ -40,6 +40,20 @@ pub record DividesRecords (records groups share : ℕ) : Type 0 where
       IsGivenTo records share number other → one ≡ other
   pub bounded : (group : ℕ) → record_count records share group ≤ share
 
+-- ---- the lanes of a group ----
+
+-- the most lanes that a group's buffer has
+abbrev pub most_lanes : ℕ
+most_lanes = 8
+
+-- how many of a group's records lie in a lane: as few as the most lanes allow, and at least one
+abbrev pub lane_width : ℕ → ℕ
+lane_width records = max 1 (div_ceil records most_lanes)
+
+-- how many lanes a group with so many records has: as few as the width allows, and at least one
+abbrev pub lane_count : ℕ → ℕ
+lane_count records = max 1 (div_ceil records (lane_width records))
+
 -- ---- when a group is rebuilt ----
 
 -- the group's buffer has as many rows as make a rebuild worth while

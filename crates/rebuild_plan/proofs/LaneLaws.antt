@@ -1,0 +1,28 @@
+-- What follows from the definitions of the lanes' number and width alone.
+use Rattle.std.proofs.Common.{ℕ, ◌*◌, ◌<◌, ◌≤◌, arith}
+use Rattle.std.proofs.Math.Nat.{mul-le-mul_right}
+use Rattle.std.specs.Int.{div_ceil}
+use Rattle.rebuild_plan.specs.Plan.{lane_width, lane_count, first_record, DividesRecords}
+use Rattle.rebuild_plan.proofs.Rounding.{div_ceil-enough, below_div_ceil}
+use Rattle.rebuild_plan.proofs.Parts.{divides}
+
+-- the lanes hold the records
+pub lane_count-enough : (records : ℕ) → records ≤ lane_count records * lane_width records
+lane_count-enough records =
+    let width = lane_width records in
+    let enough : records ≤ div_ceil records width * width =
+    div_ceil-enough records width (omega arith) in
+    let larger : div_ceil records width * width ≤ lane_count records * width =
+    mul-le-mul_right width (omega arith) in
+    omega arith
+
+-- a later lane begins at a record
+pub lane-first_below : (records lane : ℕ) → 1 ≤ lane → lane < lane_count records →
+    first_record (lane_width records) lane < records
+lane-first_below records lane later among =
+    below_div_ceil records (lane_width records) lane (omega arith) (omega arith)
+
+-- each record lies in one lane
+pub lanes_divide : (records : ℕ) → DividesRecords records (lane_count records) (lane_width records)
+lanes_divide records =
+    divides records (lane_count records) (lane_width records) (lane_count-enough records)
