@@ -1,25 +1,19 @@
-use Rattle.std.proofs.Common.{◌≡◌, ◌∙◌, Some, None, ap, sym}
+use Rattle.std.proofs.Common.{◌∙◌, Some, ap, sym}
 use Rattle.clap.specs.Words.{found_of}
 use Rattle.command_line.specs.Grammar.{bytes_name, mode_name}
 use Rattle.command_line.proofs.ReadingLaws.{row_text}
 use Rattle.command_line.proofs.reading.command_in.Goals as goal
 
-none_is_not_some : {X : Type 0} {x : X} → None ≡ Some x → ⊥
-none_is_not_some is = cc
-
-some_is : {X : Type 0} {x y : X} → Some x ≡ Some y → x ≡ y
-some_is is = cc
-
 pub returns-in_err-get_str-clause-none : goal.returns-in_err-get_str-clause-none
 returns-in_err-get_str-clause-none c =
     let absent = row_text (found_of c.args.matches.now) mode_name _ c.in_err-get_str.ensures in
-    rw c.from_residual.ensures (λ command asks. none_is_not_some (sym absent ∙ asks.mode))
+    rw c.from_residual.ensures (λ command asks. let clash = sym absent ∙ asks.mode in cc)
 
 pub returns-in_err-mode-clause-none : goal.returns-in_err-mode-clause-none
 returns-in_err-mode-clause-none c =
     let given = row_text (found_of c.args.matches.now) mode_name _ c.in_ok-get_str.ensures in
     rw c.from_residual-in_err-mode.ensures (λ command asks.
-    c.in_err-mode.ensures.none command.mode (some_is (sym asks.mode ∙ given)))
+    let both = sym asks.mode ∙ given in c.in_err-mode.ensures.none command.mode (cc))
 
 pub returns-in_err-get_str-2-clause-none : goal.returns-in_err-get_str-2-clause-none
 returns-in_err-get_str-2-clause-none c =
