@@ -379,13 +379,6 @@ limit-with_input ended.WriteFault most taken ends lt = omega arith
 limit-with_input ended.ReadFault most taken ends lt = absurd ends
 limit-with_input ended.Limit most taken ends lt = absurd ends
 
-pub no_read_fault-by_reply : (how : Ended) → EndsByReply (Some how) → how ≡ ended.ReadFault → ⊥
-no_read_fault-by_reply ended.Quit ends is = cc
-no_read_fault-by_reply ended.WriteFault ends is = cc
-no_read_fault-by_reply ended.End ends is = ends
-no_read_fault-by_reply ended.ReadFault ends is = ends
-no_read_fault-by_reply ended.Limit ends is = ends
-
 pub no_read_fault-with_input : (how : Ended) → EndsWithInput how → how ≡ ended.ReadFault → ⊥
 no_read_fault-with_input ended.End ends is = cc
 no_read_fault-with_input ended.Quit ends is = cc

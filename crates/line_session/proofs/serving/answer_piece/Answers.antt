@@ -1,7 +1,5 @@
-use Rattle.std.proofs.Common.{◌≡◌, ℕ, ◌+◌, List, [], ◌∷◌, ◌++◌, get_or, take, drop, None, refl, sym, ap, subst, ◌∙◌, take-append-drop, arith}
-use Rattle.std.proofs.lemmas.List.{take_more, take_all, length_push}
-use Rattle.line_session.specs.Served.{Continues}
-use Rattle.line_session.proofs.Counting.{counts-after, counts-nothing, going_on_is_no_fault}
+use Rattle.std.proofs.Common.{◌≡◌, ℕ, ◌+◌, List, [], ◌∷◌, ◌++◌, get_or, take, drop, None, refl, sym, ap, ◌∙◌, take-append-drop, arith}
+use Rattle.std.proofs.lemmas.List.{take_more, length_push}
 use Rattle.line_session.proofs.Sessions.{continues-start, continues-then, continues-dropping}
 use Rattle.line_session.proofs.serving.answer_piece.Goals as goal
 
@@ -16,7 +14,7 @@ loop-byte-preserved g c =
     record {
       part = continues-then g.A.Answerer.answers _ _ _ _ _ _ _ _ _ (take i piece) (get_or piece i 0 ∷ []) _ None
           (sym (take_more piece i 0 c.loop-byte-test.true)) (omega arith) c.loop-byte.invariant.part c.in_default.ensures.part;
-      faults = c.in_default.ensures.faults.same going_on_is_no_fault ∙ c.loop-byte.invariant.faults;
+      faults = c.in_default.ensures.faults.same (λ failed. cc) ∙ c.loop-byte.invariant.faults;
     }
 
 -- the bytes behind it are dropped
@@ -29,19 +27,3 @@ returns-in-Some-clause-part g c =
     ap (λ (l : List ℕ). l ++ drop (i + 1) piece) (sym (take_more piece i 0 c.loop-byte-test.true)) ∙ take-append-drop (i + 1) piece in
     continues-dropping g.A.Answerer.answers _ _ _ _ _ _ front (drop (i + 1) piece) piece c.in-Some.ended whole (omega (arith, length_push (take i piece) (get_or piece i 0))) c.in-Some.ensures.ends
     (continues-then g.A.Answerer.answers _ _ _ _ _ _ _ _ _ (take i piece) (get_or piece i 0 ∷ []) front _ refl (omega arith) c.loop-byte.invariant.part c.in-Some.ensures.part)
-
-pub returns-in-Some-clause-faults : goal.returns-in-Some-clause-faults
-returns-in-Some-clause-faults g c =
-    counts-after _ _ _ _ c.loop-byte.invariant.faults c.in-Some.ensures.faults
-
--- all bytes were taken
-pub returns-clause-part : goal.returns-clause-part
-returns-clause-part g c =
-    let piece = c.args.piece.now in
-    let i = c.loop-byte.byte-index in
-    let all : take i piece ≡ piece = take_all i piece (omega arith) in
-    subst (λ bytes. Continues g.A.Answerer.answers c.args.answerer.now c.loop-byte.answerer c.args.feed.now c.loop-byte.feed (g.K.Ends.state c.args.sink.now) (g.K.Ends.state c.loop-byte.sink) bytes None)
-    all c.loop-byte.invariant.part
-
-pub returns-clause-faults : goal.returns-clause-faults
-returns-clause-faults g c = counts-nothing _ _ _ going_on_is_no_fault c.loop-byte.invariant.faults
