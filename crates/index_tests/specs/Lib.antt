@@ -1,3 +1,4 @@
 pub mod Boards
 pub mod Records
 pub mod Buffers
+pub mod Calls

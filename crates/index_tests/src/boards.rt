@@ -108,3 +108,8 @@ pub(crate) fn closed(
     };
     words
 }
+
+/// Asserts that the words are these, and that there are so many.
+pub(crate) fn assert_words(rt: &impl Abort, found: Option<&[u64]>, expected: &[u64]) {
+    assert_eq!(rt; found, Some(expected));
+}

@@ -50,7 +50,8 @@ fn link(rt: &impl Abort, board: &Board, hand: &mut Hand, row: PrivateRow)
     let Found::Gap { before, next } = find(board, hand, 0, 7) else {
         panic!(rt; "the key is not there");
     };
-    assert_eq!(rt; (before, next), (0, 0));
+    assert_eq!(rt; before, 0);
+    assert_eq!(rt; next, 0);
     match insert(board, hand, 0, before, next, row) {
         Linked::Done => {}
         Linked::Raced { row, .. } => {
@@ -58,6 +59,22 @@ fn link(rt: &impl Abort, board: &Board, hand: &mut Hand, row: PrivateRow)
             panic!(rt; "nobody else is there");
         }
     }
+}
+
+// Asserts what the caller finds of a key.
+fn assert_finds(rt: &impl Abort, board: &Board, hand: &mut Hand, key: u64, expected: Found)
+    requires { CanSearch board.now 0 hand.old }
+    ensures { CanSearch board.now 0 hand.new }
+{
+    assert_eq!(rt; find(board, hand, 0, key), expected);
+}
+
+// Asserts which row the caller comes to first, from a key on.
+fn assert_first(rt: &impl Abort, board: &Board, hand: &mut Hand, key: u64, expected: Option<u32>)
+    requires { CanSearch board.now 0 hand.old }
+    ensures { CanSearch board.now 0 hand.new }
+{
+    assert_eq!(rt; first_from(board, hand, 0, key), expected);
 }
 
 // How many rows the caller counts.
@@ -89,19 +106,19 @@ fn a_row_is_found_once_it_is_linked(rt: HostRuntime) {
     let place = row.place();
     come_to_group(&board, &mut hand, &row);
     link(&rt, &board, &mut hand, row);
-    assert_eq!(rt; find(&board, &mut hand, 0, 7), Found::Row(place));
+    assert_finds(&rt, &board, &mut hand, 7, Found::Row(place));
     let ahead = Found::Gap {
         before: 0,
         next: place,
     };
-    assert_eq!(rt; find(&board, &mut hand, 0, 6), ahead);
+    assert_finds(&rt, &board, &mut hand, 6, ahead);
     let behind = Found::Gap {
         before: place,
         next: 0,
     };
-    assert_eq!(rt; find(&board, &mut hand, 0, 8), behind);
-    assert_eq!(rt; first_from(&board, &mut hand, 0, 6), Some(place));
-    assert_eq!(rt; first_from(&board, &mut hand, 0, 8), None);
+    assert_finds(&rt, &board, &mut hand, 8, behind);
+    assert_first(&rt, &board, &mut hand, 6, Some(place));
+    assert_first(&rt, &board, &mut hand, 8, None);
     assert_eq!(rt; count_of_caller(&board, &mut hand), 1);
     assert_eq!(rt; count_of_keeper(&board, &mut keeper), 1);
 }

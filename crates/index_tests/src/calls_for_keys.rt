@@ -1,24 +1,61 @@
 //! One caller reads, puts and removes until no row is free.
 ghost use Rattle.std.specs.Prelude.{None};
 ghost use Rattle.index_machine.specs.Sections.{IsCaller};
-ghost use Rattle.index_rule.specs.Calls.{CanCall};
 ghost use Rattle.index_rule.specs.Hands.{opening_of};
-ghost use Rattle.point_calls.specs.PointCalls.{HasSpare};
+ghost use Rattle.point_calls.specs.PointCalls.{OpensEmpty};
 ghost use Rattle.index_tests.specs.Boards.{RestsWithNoRow};
+ghost use Rattle.index_tests.specs.Calls.{CanAsk};
 
 use crate::boards::{SMALL, enter, next_hand, opened};
-use index_rule::{Board, Hand, OwnRow};
+use index_rule::{Board, Hand, OwnRow, PrivateRow};
+use map_model::Call;
 use point_calls::{get, put, remove};
+use std::process::Abort;
 use tried_calls::Tried;
 
 // The caller enters, with no row of its own.
 fn enter_to_call(board: &Board, hand: &mut Hand)
+    requires empty { OpensEmpty board.now }
     requires caller { IsCaller (opening_of board.now) 0 }
     requires rests { RestsWithNoRow board.now 0 hand.old }
-    ensures call { CanCall board.now hand.new }
-    ensures none { HasSpare board.now hand.new None }
+    ensures { CanAsk board.now hand.new None }
 {
     enter(board, 0, hand);
+}
+
+// Makes the call, once.
+fn tried(
+    board: &Board,
+    hand: &mut Hand,
+    spare: &mut Option<PrivateRow>,
+    call: Call,
+) -> Tried<Option<u64>>
+    requires { CanAsk board.now hand.old spare.old }
+    ensures { CanAsk board.now hand.new spare.new }
+{
+    match call {
+        Call::Get { key } | Call::Next { from: key } => get(board, hand, key),
+        Call::Put { key, value } => put(board, hand, spare, key, value),
+        Call::Remove { key } => remove(board, hand, key),
+    }
+}
+
+// Makes each call of the table, which has to come to what the table says.
+fn assert_tried(
+    rt: &impl Abort,
+    board: &Board,
+    hand: &mut Hand,
+    table: &[(Call, Tried<Option<u64>>)],
+)
+    requires { CanAsk board.now hand.old None }
+{
+    let mut spare = None;
+    for (call, came) in table {
+        assert_eq!(rt; tried(board, hand, &mut spare, *call), *came, "to {call:?}");
+    }
+    if let Some(row) = spare {
+        row.forget();
+    }
 }
 
 #[test]
@@ -26,25 +63,20 @@ fn a_key_is_put_and_removed_until_no_row_is_free(rt: HostRuntime) {
     let (board, mut hands) = opened(&rt, rt.alloc(), SMALL, &[]);
     let mut hand = next_hand(&rt, &board, 0, &mut hands);
     enter_to_call(&board, &mut hand);
-    let mut spare = None;
-    let new = put(&board, &mut hand, &mut spare, 5, 50);
-    assert_eq!(rt; new, Tried::Done(None));
-    let old = put(&board, &mut hand, &mut spare, 5, 51);
-    assert_eq!(rt; old, Tried::Done(Some(50)));
-    assert_eq!(rt; get(&board, &mut hand, 5), Tried::Done(Some(51)));
-    let new = put(&board, &mut hand, &mut spare, 3, 30);
-    assert_eq!(rt; new, Tried::Done(None));
-    let full = put(&board, &mut hand, &mut spare, 4, 40);
-    assert_eq!(rt; full, Tried::Full);
-    assert_eq!(rt; remove(&board, &mut hand, 5), Tried::Done(Some(51)));
-    assert_eq!(rt; remove(&board, &mut hand, 5), Tried::Done(None));
-    assert_eq!(rt; get(&board, &mut hand, 5), Tried::Done(None));
-    let revived = put(&board, &mut hand, &mut spare, 5, 52);
-    assert_eq!(rt; revived, Tried::Done(None));
-    assert_eq!(rt; get(&board, &mut hand, 5), Tried::Done(Some(52)));
-    assert_eq!(rt; get(&board, &mut hand, 3), Tried::Done(Some(30)));
-    assert_eq!(rt; get(&board, &mut hand, 4), Tried::Done(None));
-    if let Some(row) = spare {
-        row.forget();
-    }
+    let put = |key: u64, value: u64| Call::Put { key, value };
+    let table = [
+        (put(5, 50), Tried::Done(None)),
+        (put(5, 51), Tried::Done(Some(50))),
+        (Call::Get { key: 5 }, Tried::Done(Some(51))),
+        (put(3, 30), Tried::Done(None)),
+        (put(4, 40), Tried::Full),
+        (Call::Remove { key: 5 }, Tried::Done(Some(51))),
+        (Call::Remove { key: 5 }, Tried::Done(None)),
+        (Call::Get { key: 5 }, Tried::Done(None)),
+        (put(5, 52), Tried::Done(None)),
+        (Call::Get { key: 5 }, Tried::Done(Some(52))),
+        (Call::Get { key: 3 }, Tried::Done(Some(30))),
+        (Call::Get { key: 4 }, Tried::Done(None)),
+    ];
+    assert_tried(&rt, &board, &mut hand, &table);
 }

@@ -1,5 +1,5 @@
 //! A board that is closed hands out its words.
-use crate::boards::SMALL;
+use crate::boards::{SMALL, assert_words};
 use index_rule::Board;
 use std::test::Fail;
 use word_layout::Limits;
@@ -53,10 +53,8 @@ fn a_board_with_rows_hands_out_their_words_too(rt: HostRuntime) -> Result<(), Fa
         // The size of group 0; key, value, state and link of the first two places of its array.
         assert_eq!(rt; words[10], 2);
         let state = 16 * first_version;
-        assert_eq!(rt;
-            words.get(17..25),
-            Some(&[5, 50, state, 0, 7, 70, state, 0][..])
-        );
+        let expected = [5, 50, state, 0, 7, 70, state, 0];
+        assert_words(&rt, words.get(17..25), &expected);
         for i in 25..words.len() {
             assert_eq!(rt; words[i], if i == 92 { 93 } else { 0 }, "at {i}");
         }

@@ -6,7 +6,7 @@ ghost use Rattle.index_rule.specs.Hands.{known, opening_of};
 ghost use Rattle.index_rule.specs.OwnRows.{place_of_private};
 ghost use Rattle.index_tests.specs.Boards.{IsInside, Rests, RestsWithNoRow};
 
-use crate::boards::{SMALL, closed, enter, leave, next_hand, opened};
+use crate::boards::{SMALL, assert_words, closed, enter, leave, next_hand, opened};
 use index_rule::{Board, Hand, OwnRow, PrivateRow};
 use row_arena::{Taken, fill, take};
 use std::thread;
@@ -137,8 +137,8 @@ fn two_rows_are_taken_in_turn_and_filled(rt: HostRuntime) {
     assert_eq!(rt; place, None);
     let words = closed(&rt, rt.alloc(), board, (first, second, third), keeper);
     assert_eq!(rt; words.len(), 97);
-    assert_eq!(rt; words.get(89..97), Some(&[10, 20, 0, 93, 11, 21, 0, 0][..]));
-    assert_eq!(rt; words.get(0..5), Some(&[0, 2, 2, 2, 2][..]));
+    assert_words(&rt, words.get(89..97), &[10, 20, 0, 93, 11, 21, 0, 0]);
+    assert_words(&rt, words.get(0..5), &[0, 2, 2, 2, 2]);
 }
 
 #[test]
@@ -157,5 +157,5 @@ fn rows_are_taken_at_once(rt: HostRuntime) {
     let taken = u32::from(a.is_some()) + u32::from(b.is_some()) + u32::from(c.is_some());
     let words = closed(&rt, rt.alloc(), board, (first, second, third), keeper);
     assert_eq!(rt; linked(&layout, words.as_slice(), 5), Some(5 - taken));
-    assert_eq!(rt; words.get(2..5), Some(&[2, 2, 2][..]));
+    assert_words(&rt, words.get(2..5), &[2, 2, 2]);
 }

@@ -6,7 +6,7 @@ ghost use Rattle.record_cell.specs.Finding.{IsReadyAt};
 ghost use Rattle.index_tests.specs.Boards.{Rests};
 ghost use Rattle.index_tests.specs.Records.{HasRow, IsOfThree};
 
-use crate::boards::{SMALL, closed, next_hand, opened};
+use crate::boards::{SMALL, assert_words, closed, next_hand, opened};
 use crate::records::{ROWS, enter_at, place_of};
 use crate::values_in_turn::{Seen, Step, chain_of, changes_of, goes_forward, left_by};
 use index_rule::{Board, Hand};
@@ -218,7 +218,7 @@ fn changes_of_a_key_have_one_order(rt: HostRuntime) -> Result<(), Fail> {
         let (value, state) = left_by(chain.as_slice());
         let from = places[key as usize] as usize;
         let row = [u64::from(5 + key), value, state, 0];
-        assert_eq!(rt; words.get(from..from + 4), Some(&row[..]));
+        assert_words(&rt, words.get(from..from + 4), &row);
     }
     Ok(())
 }
