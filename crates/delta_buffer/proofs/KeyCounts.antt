@@ -8,7 +8,7 @@ use native.Mathlib.Decide.{ℕ_discrete}
 use Rattle.map_model.specs.Map.{IsRising, Map, look}
 use Rattle.index_machine.specs.Lists.{In}
 use Rattle.machine_buffers.proofs.LaneWalks.{none_unless}
-use Rattle.machine_buffers.proofs.NextRows.{found_on, look_first, look_other}
+use Rattle.machine_buffers.proofs.NextRows.{found_on, look_first, look_other, none_in_empty}
 
 -- ---- the count ----
 
@@ -186,6 +186,17 @@ below_least n (r ∷ rs) rising less =
     none_unless (look rs r.0) (λ q e. let up = (found_on r rs r.0 q rising e).0 in omega arith) in
     let more = one_more_least n r rs apart (less r.0 r.1 (look_first r rs)) in
     omega arith
+
+-- there is one
+pub keys_end : (m : Map) → (n : ℕ) × ((k q : ℕ) → look m k ≡ Some q → k < n)
+keys_end [] = (0, λ k q e. none_in_empty k q e)
+keys_end (r ∷ rs) =
+    let rest = keys_end rs in (
+      r.0 + 1 + rest.0,
+      λ k q e. dite (ℕ_discrete r.0 k) (λ (same : r.0 ≡ k). omega arith)
+          (λ (other : r.0 ≢ k).
+          let lt = rest.1 k q (sym (look_other r rs k other) ∙ e) in omega arith),
+    )
 
 -- ---- places ----
 

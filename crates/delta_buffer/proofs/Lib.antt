@@ -5,4 +5,4 @@ pub mod Stepping
 pub mod Linking
 pub mod Carrying
 mod KeyCounts
-mod RowWalks
+pub mod RowWalks

@@ -34,6 +34,7 @@ use Rattle.delta_buffer.specs.Searching.{IsReachedRow}
 use Rattle.delta_buffer.specs.Walks.{FollowsLink, load_of_link}
 use Rattle.delta_buffer.proofs.KeyCounts.{below_fits, below_kept, below_least, below_most}
 use Rattle.delta_buffer.proofs.KeyCounts.{below_next_least, below_next_most, below_zero, keys_below}
+use Rattle.delta_buffer.proofs.KeyCounts.{keys_end}
 use Rattle.delta_buffer.proofs.Links.{buffer_key, link_is_walk, link_of_row, row_some}
 use Rattle.delta_buffer.proofs.CallSteps.{begun_since}
 use Rattle.delta_buffer.proofs.Following.{AllAmong, rows_on}
@@ -51,6 +52,15 @@ rows_fit o g n t valid w =
     (λ k q lt e.
     let row = buffer_row o t valid q g k (w.standing k q e) in
     (placed o [] tt).all q row (opening_role-row o q row)) in
+    omega arith
+
+-- counted by the length of its list too
+pub rows_within : (o : Opening) (g : ℕ) (t : Execution) → Valid o t → IsWalkable o g t →
+    length (rows g t) ≤ (limits o).records
+rows_within o g t valid w =
+    let end = keys_end (rows g t) in
+    let fits = rows_fit o g end.0 t valid w in
+    let all = below_least end.0 (rows g t) (rise o t valid g) end.1 in
     omega arith
 
 -- ---- the walk ----

@@ -108,6 +108,7 @@ ended o id v hs ws xs of all f =
     record {
       execution = r.execution;
       valid = r.valid;
+      built = r.built;
       ends = ends_all o r.execution v hs k all;
       left = subst (λ (z : List ℕ). StandsFor o z r.execution) f.2 r.words;
     }
@@ -153,6 +154,7 @@ leaves_alike o hs ws us wide same old =
     record {
       execution = old.execution;
       valid = old.valid;
+      built = old.built;
       ends = old.ends;
       left = record {
         wide = wide;

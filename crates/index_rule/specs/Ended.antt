@@ -9,6 +9,7 @@ use Rattle.index_rule.specs.declared.board.Board.{Board}
 use Rattle.index_rule.specs.declared.hand.Hand.{Hand}
 use Rattle.index_rule.specs.declared.view.View.{View}
 use Rattle.index_rule.specs.declared.view.Heard.{Heard}
+use Rattle.index_rule.specs.Built.{AreBuilt}
 use Rattle.index_rule.specs.Hands.{IsHandOf, opening_of, known, view}
 use Rattle.index_rule.specs.Rule.{Owns, StandsFor}
 use Rattle.index_rule.specs.Seats.{heard_of}
@@ -33,10 +34,11 @@ abbrev pub EndsFor : List Hand → Execution → Type 0
 EndsFor [] t = Unit {0}
 EndsFor (h ∷ hs) t = ContinuesWithout h.number (known h) t × EndsFor hs t
 
--- the words are those that one whole execution leaves
+-- the words are those that one whole execution leaves, of the kinds of step that are built
 pub record Leaves (o : Opening) (hands : List Hand) (words : List ℕ) : Type 0 where
   pub execution : Execution
   pub valid : Valid o execution
+  pub built : AreBuilt execution
   pub ends : EndsFor hands execution
   pub left : StandsFor o words execution
 

@@ -9,3 +9,7 @@ pub mod AloneAnswers
 pub mod OwnEvents
 pub mod Undisturbed
 pub mod OneOrder
+pub mod KeptPairs
+pub mod OneGroup
+pub mod RestingWords
+pub mod AllPasses

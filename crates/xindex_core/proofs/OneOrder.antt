@@ -36,20 +36,20 @@ module _ (i : Index) (t : Execution) where
       (logged (first + 1) caller ps log all.2 at)
 
 -- the log of a pass stands at its place among the logs
-log_at : (passes : List Pass) (caller : ℕ) (p : Pass) → slice_get passes caller ≡ Some p →
+pub log_at : (passes : List Pass) (caller : ℕ) (p : Pass) → slice_get passes caller ≡ Some p →
     slice_get (logs_of passes) caller ≡ Some (log_of p)
 log_at [] caller p at = let none = at in cc
 log_at (q ∷ ps) zero p at = let e = at in cc
 log_at (q ∷ ps) (suc caller) p at = log_at ps caller p at
 
-as_many : (passes : List Pass) → length (logs_of passes) ≡ length passes
+pub as_many : (passes : List Pass) → length (logs_of passes) ≡ length passes
 as_many [] = refl
 as_many (p ∷ ps) = ap suc (as_many ps)
 
 -- ---- who changes the index ----
 
 -- each change is of a caller with a log, where there are as many logs as callers
-below : (o : Opening) (many : ℕ) (h : History) → many ≡ (limits o).callers → AreByCallers o h →
+pub below : (o : Opening) (many : ℕ) (h : History) → many ≡ (limits o).callers → AreByCallers o h →
     AllByRecursion (λ c. caller_of c < many) h
 below o many [] same by = tt
 below o many (c ∷ h) same by = (let one = by.0 in omega arith, below o many h same by.1)

@@ -12,3 +12,4 @@ pub mod Fitting
 pub mod Alone
 pub mod Undisturbed
 pub mod OneOrder
+pub mod Closing

@@ -2,6 +2,7 @@
 //!
 //! A function here does nothing: it has a law for its contract, and so the check proves the law.
 ghost use Rattle.xindex_core.specs.Alone.{CallersAloneTellTheMap, CallsAloneHaveAnswers};
+ghost use Rattle.xindex_core.specs.Closing.{ClosedLogsHaveOneOrder, PassesInOrderAreAll};
 ghost use Rattle.xindex_core.specs.Naming.{NamesSettleTheIndex};
 ghost use Rattle.xindex_core.specs.OneOrder.{CallersShareOneOrder};
 ghost use Rattle.xindex_core.specs.Undisturbed.{UndisturbedTriesEnd};
@@ -33,4 +34,15 @@ pub fn undisturbed_tries_end()
 /// the plain map that is run over it.
 pub fn callers_share_one_order()
     ensures { CallersShareOneOrder }
+{}
+
+/// The passes of callers 0 to the last one, in order, are all that closing asks for.
+pub fn passes_in_order_are_all()
+    ensures { PassesInOrderAreAll }
+{}
+
+/// What such passes have in their logs as the index is closed has one order, over which the plain map
+/// runs to the pairs that closing gives.
+pub fn closed_logs_have_one_order()
+    ensures { ClosedLogsHaveOneOrder }
 {}

@@ -6,6 +6,7 @@
 #![tactic(auto)]
 
 mod calling;
+mod closing;
 mod index;
 mod keeper;
 mod laws;
@@ -16,12 +17,14 @@ mod pass;
 mod telling;
 mod waiter;
 
+pub use closing::Unclosed;
 pub use index::{Index, OpenError, Opened};
 pub use index_rule::Note;
 pub use keeper::Keeper;
 pub use laws::{
     callers_alone_tell_the_map, callers_share_one_order, calls_alone_have_answers,
-    names_settle_the_index, undisturbed_tries_end,
+    closed_logs_have_one_order, names_settle_the_index, passes_in_order_are_all,
+    undisturbed_tries_end,
 };
 pub use named::{NamedKeeper, NamedPass};
 pub use naming::Name;

@@ -1,4 +1,6 @@
 //! What one caller calls with.
+ghost use Rattle.std.specs.Prelude.{◌≡◌};
+
 use index_rule::{Hand, PrivateRow};
 
 /// The right of one caller to make calls on one index.
@@ -16,5 +18,18 @@ impl Drop for Pass {
         if let Some(row) = spare {
             row.forget();
         }
+    }
+}
+
+impl Pass {
+    // The hand again, as the index is closed. A row that was not linked is given up with the table.
+    pub(crate) fn into_hand(self) -> Hand
+        ensures { result ≡ self.hand }
+    {
+        let Pass { hand, spare } = self;
+        if let Some(row) = spare {
+            row.forget();
+        }
+        hand
     }
 }

@@ -1,5 +1,5 @@
 //! A board is closed: its hands are joined, and its words are handed out.
-ghost use Rattle.std.specs.Prelude.{◌≡◌, IfOk, IfErr, Some};
+ghost use Rattle.std.specs.Prelude.{◌≡◌, IfOk, IfErr, Some, length};
 ghost use Rattle.std.specs.Slots.{IsFull, slots_items, slots_len};
 ghost use Rattle.word_layout.specs.Limits.{word_count};
 ghost use Rattle.word_layout.specs.Layout.{limits_of};
@@ -25,15 +25,26 @@ impl Board {
         ensures hands { IfErr result (λ kept. kept.1 ≡ hands) }
     {
         let count = self.layout.words() as usize;
-        let Ok(mut words) = vec![in alloc; 0u64; count] else {
+        let Ok(words) = vec![in alloc; 0u64; count] else {
             return Err((self, hands));
         };
+        Ok(self.close_into(hands, words))
+    }
+
+    /// Takes back all hands, in any order, and writes the words by their addresses over these, which are
+    /// as many. It takes no memory, so nothing has to be handed back.
+    pub fn close_into(self, hands: Vec<Hand>, mut words: Vec<u64>) -> Vec<u64>
+        requires hands { AreAllHands self hands.items }
+        requires many { length words.items ≡ word_count (limits_of self.layout) }
+        ensures { Leaves (opening_of self) hands.items result.items }
+    {
+        let count = words.len();
         let closed = self.end(hands);
         for i in 0..count {
             words[i] = closed.word(i);
         }
         closed.free();
-        Ok(words)
+        words
     }
 
     // Once all hands are one seat, it knows every event.

@@ -1,6 +1,6 @@
 use Rattle.std.proofs.Common.{◌≡◌, ◌<◌, ℕ, length, slice_index}
 use Rattle.std.specs.Slots.{slots_items}
-use Rattle.index_rule.proofs.board.Board.close.Given as goal
+use Rattle.index_rule.proofs.board.Board.close_into.Given as goal
 
 abbrev pub invariant-loop-i : goal.invariant-loop-i
 invariant-loop-i l =

@@ -9,7 +9,7 @@ use Rattle.word_layout.specs.Limits.{word_count}
 use Rattle.index_machine.specs.Words.{limits}
 use Rattle.index_rule.specs.Hands.{opening_of}
 use Rattle.index_rule.proofs.Ending.{got, leaves_alike}
-use Rattle.index_rule.proofs.board.Board.close.Goals as goal
+use Rattle.index_rule.proofs.board.Board.close_into.Goals as goal
 
 pub loop-i-preserved : goal.loop-i-preserved
 loop-i-preserved c =
@@ -30,17 +30,16 @@ loop-i-preserved c =
           (λ (other : k ≢ at). get_or-set_other words at k x 0 other ∙ i.same k (omega arith));
     }
 
-pub returns-clause-words : goal.returns-clause-words
-returns-clause-words c =
+pub returns : goal.returns
+returns c =
     let b = c.args.self in
     let i = c.loop-i.invariant in
     let laid : word_count (limits_of b.layout) ≡ word_count (limits (opening_of b)) =
     ap (λ (l : Layout). word_count (limits_of l)) (sym b.laid)
     in
-    let count : c.words-count.result ≡ word_count (limits (opening_of b)) =
-    c.words-count.ensures.count ∙ laid
-    in
+    let many = c.requires.many in
     let end = c.loop-i-test.false in
     leaves_alike (opening_of b) c.args.hands.items (slots_items c.end-closed.result.words)
-    c.loop-i.words.items (i.wide ∙ count) (λ k lt. i.same k (omega arith))
+    c.loop-i.words.items (let wide = i.wide in let count = c.len-count.ensures in omega arith)
+    (λ k lt. i.same k (let count = c.len-count.ensures in omega arith))
     c.end-closed.ensures.words

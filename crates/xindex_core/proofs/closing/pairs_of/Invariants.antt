@@ -1,0 +1,15 @@
+use Rattle.std.proofs.Common.{◌≤◌, vec_capacity}
+use Rattle.word_layout.specs.Layout.{limits_of}
+use Rattle.index_machine.specs.declared.opening.Opening.{Opening}
+use Rattle.index_machine.specs.Execution.{Execution}
+use Rattle.xindex_core.specs.Closing.{LeaveAtRest}
+use Rattle.xindex_core.proofs.RestingWords.{Reads}
+use Rattle.xindex_core.proofs.closing.pairs_of.Given as goal
+
+abbrev pub invariant-loop-met : goal.invariant-loop-met
+invariant-loop-met l =
+    record {
+      room : (limits_of l.layout).records ≤ vec_capacity l.pairs;
+      reads : (o : Opening) (t : Execution) (rest : LeaveAtRest l.layout l.words o t) →
+          Reads l.layout l.words o t rest l._met l.next l.pairs.items;
+    }
