@@ -16,7 +16,8 @@ use Rattle.index_rule.specs.declared.board.Board.{Board}
 use Rattle.index_rule.specs.declared.hand.Hand.{Hand}
 use Rattle.index_rule.specs.declared.view.View.{View}
 use Rattle.index_rule.specs.declared.view.Heard.{Heard}
-use Rattle.index_rule.specs.Rule.{Owns, GoesOn, GoesOnFromAll, AreOwn, Knows, Kept, StandsFor}
+use Rattle.opened_table.specs.Laying.{StandsFor}
+use Rattle.index_rule.specs.Rule.{Owns, GoesOn, GoesOnFromAll, AreOwn, Knows, Kept}
 use Rattle.index_rule.specs.Hands.{known, view, IsHandOf}
 use Rattle.index_rule.specs.Seats.{joined, heard_of}
 use Rattle.index_rule.specs.Ended.{AreOf, AreOutside, EndsFor, IsHeard, Includes, IncludesAll}

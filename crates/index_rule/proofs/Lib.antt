@@ -9,8 +9,6 @@ pub mod Opens
 pub mod NewHands
 pub mod StepKinds
 pub mod EpochSteps
-pub mod Laid
-pub mod LaidRows
 pub mod Ending
 pub mod FreeSteps
 pub mod Stepping

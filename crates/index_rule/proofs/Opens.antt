@@ -16,7 +16,8 @@ use Rattle.index_machine.proofs.Holders.{holds_no_lock_first}
 use Rattle.index_rule.specs.declared.view.View.{View}
 use Rattle.index_rule.specs.declared.board.Board.{Board}
 use Rattle.index_rule.specs.declared.hand.Hand.{Hand}
-use Rattle.index_rule.specs.Rule.{Kept, Knows, StandsFor, IsFollowing, KeepsLockedWord}
+use Rattle.opened_table.specs.Laying.{StandsFor}
+use Rattle.index_rule.specs.Rule.{Kept, Knows, IsFollowing, KeepsLockedWord}
 use Rattle.index_rule.specs.Rule.{first_view, counting}
 use Rattle.index_rule.specs.Hands.{IsHandOf, opening_of, view}
 use Rattle.index_rule.specs.Seats.{new_hand, rest_of, others_left, one_hand}

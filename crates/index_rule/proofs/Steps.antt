@@ -22,7 +22,8 @@ use Rattle.index_machine.specs.Sections.{crossings, crossings_after}
 use Rattle.index_machine.specs.Conditions.{Allowed, Valid}
 use Rattle.index_machine.proofs.Executions.{crossings_on, valid_before}
 use Rattle.index_rule.specs.declared.view.View.{View}
-use Rattle.index_rule.specs.Rule.{Owns, GoesOn, Knows, StandsFor, AreApart}
+use Rattle.opened_table.specs.Laying.{StandsFor}
+use Rattle.index_rule.specs.Rule.{Owns, GoesOn, Knows, AreApart}
 use Rattle.index_rule.specs.Rule.{Kept, Acts, Does, number, first_of, stepped, HasLog, Follows}
 use Rattle.index_rule.specs.Rule.{log_after, logged}
 use Rattle.index_rule.specs.Built.{IsBuilt, AreBuilt}

@@ -11,7 +11,8 @@ use Rattle.index_rule.specs.declared.view.View.{View}
 use Rattle.index_rule.specs.declared.view.Heard.{Heard}
 use Rattle.index_rule.specs.Built.{AreBuilt}
 use Rattle.index_rule.specs.Hands.{IsHandOf, opening_of, known, view}
-use Rattle.index_rule.specs.Rule.{Owns, StandsFor}
+use Rattle.opened_table.specs.Laying.{StandsFor}
+use Rattle.index_rule.specs.Rule.{Owns}
 use Rattle.index_rule.specs.Seats.{heard_of}
 
 -- the numbers of the hands

@@ -5,8 +5,7 @@ use Rattle.std.specs.Prelude.{◌++◌, length}
 use mathlib.Core.Option.{some}
 use lib.ListN.{get_elem?}
 use Rattle.atomic_table.specs.Table.{State, Me}
-use Rattle.word_layout.specs.Limits.{word_count}
-use Rattle.word_layout.specs.Words.{Word, FreeHead, IsWord, word_named}
+use Rattle.word_layout.specs.Words.{Word, FreeHead}
 use Rattle.word_layout.specs.WordAt.{word_at}
 use Rattle.map_model.specs.declared.entries.Entry.TheVariants.{Made}
 use Rattle.map_model.specs.Map.{key_of}
@@ -21,6 +20,7 @@ use Rattle.index_machine.specs.Sections.{IsCaller, IsHand, crossings, crossings_
 use Rattle.index_machine.specs.Openings.{opening_map}
 use Rattle.index_machine.specs.LivePlaces.{history, value_in_map}
 use Rattle.index_machine.specs.Conditions.{Valid}
+use Rattle.opened_table.specs.Laying.{StandsFor}
 use Rattle.index_rule.specs.Built.{AreBuilt}
 use Rattle.index_rule.specs.declared.view.View.{View}
 use Rattle.index_rule.specs.declared.view.Heard.{Heard}
@@ -71,11 +71,6 @@ pub record Knows (o : Opening) (t : Execution) (v : View) : Type 0 where
   pub heard_logged : AreLogged o v.heard
 
 -- ---- the rule ----
-
--- the list of words stands for what each word holds after the execution
-pub record StandsFor (o : Opening) (words : List ℕ) (t : Execution) : Type 0 where
-  pub wide : length words ≡ word_count (limits o)
-  pub named : (w : Word) → IsWord (limits o) w → word_named (limits o) words w ≡ word o t w
 
 -- no two seats are one hand
 abbrev pub AreApart : List View → Type 0

@@ -10,7 +10,6 @@ mod buffers;
 mod closing;
 mod epochs;
 mod free_stack;
-mod laying;
 mod looking;
 mod opening;
 mod records;

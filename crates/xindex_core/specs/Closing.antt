@@ -17,7 +17,7 @@ use Rattle.index_machine.specs.Sections.{IsCaller}
 use Rattle.machine_places.specs.Agreement.{AreByCallers}
 use Rattle.index_rule.specs.declared.hand.Hand.{Hand}
 use Rattle.index_rule.specs.Built.{AreBuilt}
-use Rattle.index_rule.specs.Rule.{StandsFor}
+use Rattle.opened_table.specs.Laying.{StandsFor}
 use Rattle.xindex_core.specs.declared.index.Index.{Index}
 use Rattle.xindex_core.specs.declared.keeper.Keeper.{Keeper}
 use Rattle.xindex_core.specs.declared.pass.Pass.{Pass}

@@ -1,5 +1,5 @@
 //! A board is opened, with a hand for each caller and one for the keeper.
-ghost use Rattle.std.specs.Prelude.{◌≡◌, ◌<◌, ◌≤◌, ◌^◌, IfOk, [], length};
+ghost use Rattle.std.specs.Prelude.{◌≡◌, ◌≤◌, IfOk, [], length};
 ghost use Rattle.map_model.specs.Map.{IsRising};
 ghost use Rattle.word_layout.specs.Layout.{limits_of};
 ghost use Rattle.index_rule.specs.Rule.{first_view};
@@ -8,14 +8,12 @@ ghost use Rattle.index_rule.specs.Opened.{HasNewHands};
 ghost use Rattle.index_rule.specs.Ended.{AreAllHands};
 
 use crate::board::Board;
-use crate::board::laying::laid_words;
 use crate::hand::Hand;
 use crate::plays::MakesHand;
 use crate::rule::{Place, Words};
 use atomic_table::Table;
-use index_machine::Opening;
+use opened_table::{laid_words, opening_with};
 use std::alloc::{AllocError, Global};
-use std::collections::LinkedList;
 use word_layout::Layout;
 
 impl Board {
@@ -77,29 +75,4 @@ impl Board {
         })?;
         Ok(hands)
     }
-}
-
-// The rows once more, as the rule of the table names them.
-fn opening_with(alloc: Global, layout: &Layout, rows: &[(u64, u64)]) -> Result<Opening, AllocError>
-    requires rising { IsRising rows.now }
-    requires few { length rows.now ≤ (limits_of layout.now).group_size }
-    ensures layout { IfOk result (λ opening. opening.layout ≡ layout.now) }
-    ensures rows { IfOk result (λ opening. opening.rows ≡ rows.now) }
-{
-    let mut list = LinkedList::new(alloc);
-    for row in rows {
-        list.push_back((within_64_bits(row.0), row.1))?;
-    }
-    Ok(Opening {
-        layout: *layout,
-        rows: list,
-    })
-}
-
-// The range of a `u64` as a clause, since the opening asks it of each key.
-fn within_64_bits(key: u64) -> u64
-    ensures same { result ≡ key }
-    ensures below { result < 2 ^ 64 }
-{
-    key
 }

@@ -2,8 +2,8 @@ use Rattle.std.proofs.Common.{rules, arith, ◌≡◌, ◌<◌, ◌^◌, ◌+◌
 use Rattle.std.proofs.Common.{◌∙◌, subst, add-one, take-suc}
 use Rattle.std.specs.List.{AllByRecursion}
 use Rattle.map_model.specs.Map.{Map}
-use Rattle.index_rule.proofs.LaidRows.{all_more}
-use Rattle.index_rule.proofs.board.opening.opening_with.Goals as goal
+use Rattle.opened_table.proofs.LaidRows.{all_more}
+use Rattle.opened_table.proofs.opening.opening_with.Goals as goal
 
 pub loop-row-preserved : goal.loop-row-preserved
 loop-row-preserved c =

@@ -1,6 +1,6 @@
 use Rattle.std.proofs.Common.{◌≡◌, ◌<◌, ◌^◌, take}
 use Rattle.std.specs.List.{AllByRecursion}
-use Rattle.index_rule.proofs.board.opening.opening_with.Given as goal
+use Rattle.opened_table.proofs.opening.opening_with.Given as goal
 
 abbrev pub invariant-loop-row : goal.invariant-loop-row
 invariant-loop-row l =

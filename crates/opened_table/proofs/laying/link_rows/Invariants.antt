@@ -1,6 +1,6 @@
 use Rattle.word_layout.specs.Layout.{limits_of}
-use Rattle.index_rule.specs.Opened.{LinksRows}
-use Rattle.index_rule.proofs.board.laying.link_rows.Given as goal
+use Rattle.opened_table.specs.Laying.{LinksRows}
+use Rattle.opened_table.proofs.laying.link_rows.Given as goal
 
 abbrev pub invariant-loop-i : goal.invariant-loop-i
 invariant-loop-i l =

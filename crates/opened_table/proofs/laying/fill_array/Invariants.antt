@@ -1,6 +1,6 @@
 use Rattle.word_layout.specs.Layout.{limits_of}
-use Rattle.index_rule.specs.Opened.{FillsArray}
-use Rattle.index_rule.proofs.board.laying.fill_array.Given as goal
+use Rattle.opened_table.specs.Laying.{FillsArray}
+use Rattle.opened_table.proofs.laying.fill_array.Given as goal
 
 abbrev pub invariant-loop-i : goal.invariant-loop-i
 invariant-loop-i l =

@@ -7,11 +7,11 @@ use Rattle.index_machine.specs.Words.{limits}
 use Rattle.map_model.specs.Map.{Map}
 use Rattle.word_layout.specs.declared.headers.HeaderWord.TheVariants as header
 use Rattle.word_layout.specs.Headers.{header_word}
-use Rattle.index_rule.specs.Opened.{FillsArray, LinksRows}
-use Rattle.index_rule.specs.Rule.{StandsFor}
-use Rattle.index_rule.proofs.Laid.{laid, without_rows}
-use Rattle.index_rule.proofs.LaidRows.{laid_rows}
-use Rattle.index_rule.proofs.board.laying.laid_words.Goals as goal
+use Rattle.opened_table.specs.Laying.{FillsArray, LinksRows}
+use Rattle.opened_table.specs.Laying.{StandsFor}
+use Rattle.opened_table.proofs.Laid.{laid, without_rows}
+use Rattle.opened_table.proofs.LaidRows.{laid_rows}
+use Rattle.opened_table.proofs.laying.laid_words.Goals as goal
 
 pub returns : goal.returns
 returns c =

@@ -2,8 +2,8 @@
 ghost use Rattle.std.specs.Prelude.{◌≡◌, ◌≤◌, [], IfOk, length};
 ghost use Rattle.word_layout.specs.Limits.{word_count};
 ghost use Rattle.word_layout.specs.Layout.{limits_of};
-ghost use Rattle.index_rule.specs.Rule.{StandsFor};
-ghost use Rattle.index_rule.specs.Opened.{FillsArray, LinksRows};
+ghost use Rattle.opened_table.specs.Laying.{StandsFor};
+ghost use Rattle.opened_table.specs.Laying.{FillsArray, LinksRows};
 
 use index_machine::Opening;
 use std::alloc::{AllocError, Global};
@@ -11,7 +11,7 @@ use word_layout::{HeaderWord, Layout, State, link_word, state_word, value_word};
 
 /// All record rows are on the free stack, row 0 first; the root names side 0, which has one slot
 /// in use; and the array of group 0 has the opening's rows, which are given as a slice too.
-pub(crate) fn laid_words(
+pub fn laid_words(
     alloc: Global,
     opening: &Opening,
     rows: &[(u64, u64)],

@@ -4,9 +4,9 @@ use Rattle.word_layout.specs.declared.places.Part.TheVariants.{Link}
 use Rattle.word_layout.specs.Layout.{limits_of}
 use Rattle.word_layout.specs.Addresses.{row_address}
 use Rattle.word_layout.specs.Places.{part_address}
-use Rattle.index_rule.specs.Opened.{LinksRows}
-use Rattle.index_rule.proofs.Laid.{link_more}
-use Rattle.index_rule.proofs.board.laying.link_rows.Goals as goal
+use Rattle.opened_table.specs.Laying.{LinksRows}
+use Rattle.opened_table.proofs.Laid.{link_more}
+use Rattle.opened_table.proofs.laying.link_rows.Goals as goal
 
 pub loop-i-preserved : goal.loop-i-preserved
 loop-i-preserved c =

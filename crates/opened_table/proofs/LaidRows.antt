@@ -23,9 +23,9 @@ use Rattle.index_machine.specs.declared.opening.Opening.{Opening}
 use Rattle.index_machine.specs.OpeningRows.{opening_row, row_from, key_word, value_word, row_state_word}
 use Rattle.index_machine.specs.Words.{limits, opening_word}
 use Rattle.index_machine.proofs.Executions.{choice-same, choice-other}
-use Rattle.index_rule.proofs.Laid.{no_header, without_rows}
-use Rattle.index_rule.specs.Opened.{FillsArray, HoldsRow}
-use Rattle.index_rule.specs.Rule.{StandsFor}
+use Rattle.opened_table.proofs.Laid.{no_header, without_rows}
+use Rattle.opened_table.specs.Laying.{FillsArray, HoldsRow}
+use Rattle.opened_table.specs.Laying.{StandsFor}
 
 -- what all elements keep, and one more does too, all keep with this one behind them
 pub all_more : (P : ℕ × ℕ → Type 0) (rows : Map) (row : ℕ × ℕ) → AllByRecursion P rows → P row →

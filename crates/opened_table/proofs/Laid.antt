@@ -20,8 +20,8 @@ use Rattle.word_layout.proofs.RowPlaces.{next_row-inner, next_row-last}
 use Rattle.word_layout.proofs.WordNames.{stores_by_name, array_inside}
 use Rattle.index_machine.specs.declared.opening.Opening.{Opening}
 use Rattle.index_machine.specs.Words.{limits, opening_word}
-use Rattle.index_rule.specs.Opened.{LinksRows}
-use Rattle.index_rule.specs.Rule.{StandsFor}
+use Rattle.opened_table.specs.Laying.{LinksRows}
+use Rattle.opened_table.specs.Laying.{StandsFor}
 
 place_of_link : (p q : ℕ) → PlaceWord p Link ≡ PlaceWord q Link → p ≡ q
 place_of_link p q e = cc

@@ -6,9 +6,9 @@ use Rattle.word_layout.specs.Addresses.{array_address}
 use Rattle.word_layout.specs.Layout.{limits_of}
 use Rattle.word_layout.specs.Places.{part_address}
 use Rattle.word_layout.specs.State.{word_of_state}
-use Rattle.index_rule.specs.Opened.{FillsArray}
-use Rattle.index_rule.proofs.LaidRows.{fill_more}
-use Rattle.index_rule.proofs.board.laying.fill_array.Goals as goal
+use Rattle.opened_table.specs.Laying.{FillsArray}
+use Rattle.opened_table.proofs.LaidRows.{fill_more}
+use Rattle.opened_table.proofs.laying.fill_array.Goals as goal
 
 pub loop-i-preserved : goal.loop-i-preserved
 loop-i-preserved c =
