@@ -15,6 +15,8 @@ mod calls_for_keys;
 #[cfg(test)]
 mod closed_boards;
 #[cfg(test)]
+mod closed_indexes;
+#[cfg(test)]
 mod example;
 #[cfg(test)]
 mod free_rows;

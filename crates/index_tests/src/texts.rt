@@ -1,7 +1,9 @@
-//! What is printed of an index that was not opened, and of a call that is to be tried again.
+//! What is printed of an index that was not opened or not closed, and of a call that is to be tried again.
+use crate::boards::SMALL;
+use crate::indexes::opened_index;
 use std::test::Fail;
 use tried_calls::Why;
-use xindex_core::OpenError;
+use xindex_core::{OpenError, Opened, Unclosed};
 
 #[test]
 fn an_error_of_opening_shows_its_cause(rt: HostRuntime) -> Result<(), Fail> {
@@ -13,6 +15,23 @@ fn an_error_of_opening_shows_its_cause(rt: HostRuntime) -> Result<(), Fail> {
         let shown = format!(in rt.alloc(); "{error}")?;
         assert_eq!(rt; shown.as_str(), text);
     }
+    Ok(())
+}
+
+#[test]
+fn an_index_that_was_not_closed_shows_its_cause(rt: HostRuntime) -> Result<(), Fail> {
+    let Opened {
+        index,
+        passes,
+        keeper,
+    } = opened_index(&rt, rt.alloc(), SMALL);
+    let unclosed = Unclosed {
+        index,
+        passes,
+        keeper,
+    };
+    let shown = format!(in rt.alloc(); "{unclosed}")?;
+    assert_eq!(rt; shown.as_str(), "out of memory");
     Ok(())
 }
 
