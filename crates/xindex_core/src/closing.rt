@@ -55,7 +55,7 @@ impl Index {
         ensures keeper { IfErr result (λ kept. kept.keeper ≡ keeper) }
     {
         let layout = self.board.layout();
-        let Ok(room) = room_for(alloc, &layout, passes.len()) else {
+        let Ok(room) = room_for(alloc, &layout, &passes) else {
             return Err(Unclosed {
                 index: self,
                 passes,
@@ -82,19 +82,20 @@ struct Room {
     hands: Vec<Hand>,
 }
 
-// A table has no more pairs than record rows.
-fn room_for(alloc: Global, layout: &Layout, passes: usize) -> Result<Room, AllocError>
+// There are no more pairs than record rows, and one hand more than passes.
+fn room_for(alloc: Global, layout: &Layout, passes: &Vec<Pass>) -> Result<Room, AllocError>
     ensures no_pairs { IfOk result (λ room. room.pairs.items ≡ []) }
     ensures pairs { IfOk result (λ room. (limits_of layout.now).records ≤ vec_capacity room.pairs) }
     ensures words { IfOk result (λ room.
         length room.words.items ≡ word_count (limits_of layout.now)) }
     ensures no_hands { IfOk result (λ room. room.hands.items ≡ []) }
-    ensures hands { IfOk result (λ room. passes + 1 ≤ vec_capacity room.hands) }
+    ensures hands { IfOk result (λ room.
+        length passes.now.items + 1 ≤ vec_capacity room.hands) }
 {
     Ok(Room {
         pairs: Vec::with_capacity(alloc, layout.limits().records as usize)?,
         words: vec![in alloc; 0u64; layout.words() as usize]?,
-        hands: Vec::with_capacity(alloc, passes.saturating_add(1))?,
+        hands: Vec::with_capacity(alloc, passes.len() + 1)?,
     })
 }
 
