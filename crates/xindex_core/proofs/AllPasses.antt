@@ -37,12 +37,13 @@ use Rattle.index_rule.specs.Ended.{AreAllHands, AreOutside, EndsFor, Leaves, num
 use Rattle.index_rule.specs.Hands.{IsHandOf, known, opening_of, view}
 use Rattle.index_rule.specs.Rule.{Follows}
 use Rattle.index_rule.proofs.Logging.{log_on}
+use Rattle.resting_table.specs.Resting.{LeaveAtRest, TellPairs}
 use Rattle.xindex_core.specs.declared.index.Index.{Index}
 use Rattle.xindex_core.specs.declared.keeper.Keeper.{Keeper}
 use Rattle.xindex_core.specs.declared.pass.Pass.{Pass}
 use Rattle.xindex_core.specs.Closing.{AreAllLogsIn, AreAllPasses, ArePassesFrom, ArePassesOf}
-use Rattle.xindex_core.specs.Closing.{ClosedLogsHaveOneOrder, EndsForAll, IsClosedWith, LeaveAtRest}
-use Rattle.xindex_core.specs.Closing.{PassesInOrderAreAll, TellPairs, all_hands, caller_numbers}
+use Rattle.xindex_core.specs.Closing.{ClosedLogsHaveOneOrder, EndsForAll, IsClosedWith}
+use Rattle.xindex_core.specs.Closing.{PassesInOrderAreAll, all_hands, caller_numbers}
 use Rattle.xindex_core.specs.OneOrder.{logs_of}
 use Rattle.xindex_core.specs.Passes.{IsKeeperOf, known_to, log_of, number_of, opening_with}
 use Rattle.xindex_core.proofs.OneOrder.{as_many, below, log_at}

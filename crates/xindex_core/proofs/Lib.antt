@@ -5,11 +5,5 @@ pub mod Opens
 pub mod Waits
 pub mod AloneSteps
 pub mod Names
-pub mod AloneAnswers
-pub mod OwnEvents
-pub mod Undisturbed
 pub mod OneOrder
-pub mod KeptPairs
-pub mod OneGroup
-pub mod RestingWords
 pub mod AllPasses

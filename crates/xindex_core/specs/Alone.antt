@@ -9,8 +9,7 @@ use Rattle.map_model.specs.Answer.{entry_of}
 use Rattle.map_model.specs.Entry.{StandsBetween}
 use Rattle.map_model.specs.History.{History, after, caller_of, changes_at, inserts}
 use Rattle.map_model.specs.Logs.{Log, changes_of, place_of}
-use Rattle.map_model.specs.Laws.{IsOfOneKey}
-use Rattle.map_model.specs.Map.{IsRising, Map, look}
+use Rattle.map_model.specs.Map.{Map, look}
 use Rattle.word_layout.specs.declared.limits.Limits.{Limits}
 use Rattle.index_machine.specs.Forms.{last_version}
 use Rattle.index_machine.specs.Openings.{opening_map}
@@ -75,9 +74,3 @@ CallersAloneTellTheMap =
     Answers old call answer new → AllByZero (seen_by new) →
     IsAlone l new × AllByZero (seen_by old) × AnswersAlone l old.log call answer new.log
     × (changes_of new.log ≡ seen_by new)
-
--- a call of one key always has an answer: so a session of any lines is there
-abbrev pub CallsAloneHaveAnswers : Type 0
-CallsAloneHaveAnswers =
-    (l : Limits) (old : Log) (call : Call) → IsOfOneKey call → IsRising (map_of old) →
-    (answer : Answer) × (new : Log) × AnswersAlone l old call answer new × IsRising (map_of new)

@@ -5,19 +5,13 @@ use Rattle.std.specs.Prelude.{◌≡◌, ℕ, ◌+◌, List, [], ◌∷◌, leng
 use Rattle.map_model.specs.History.{History, IsLegal, after}
 use Rattle.map_model.specs.Logs.{IsLogOf}
 use Rattle.map_model.specs.Map.{IsRising, Map}
-use Rattle.word_layout.specs.declared.layout.Layout.{Layout}
-use Rattle.index_machine.specs.declared.opening.Opening.{Opening}
-use Rattle.index_machine.specs.Conditions.{Valid}
 use Rattle.index_machine.specs.Execution.{ContinuesWithout, Execution}
 use Rattle.index_machine.specs.Lists.{In}
 use Rattle.index_machine.specs.LivePlaces.{history}
 use Rattle.index_machine.specs.Openings.{opening_map}
-use Rattle.index_machine.specs.RecordConditions.{HoldsNoLock}
 use Rattle.index_machine.specs.Sections.{IsCaller}
 use Rattle.machine_places.specs.Agreement.{AreByCallers}
 use Rattle.index_rule.specs.declared.hand.Hand.{Hand}
-use Rattle.index_rule.specs.Built.{AreBuilt}
-use Rattle.opened_table.specs.Laying.{StandsFor}
 use Rattle.xindex_core.specs.declared.index.Index.{Index}
 use Rattle.xindex_core.specs.declared.keeper.Keeper.{Keeper}
 use Rattle.xindex_core.specs.declared.pass.Pass.{Pass}
@@ -71,31 +65,12 @@ pub record IsClosedWith (i : Index) (passes : List Pass) (pairs : Map) : Type 0 
   pub left : pairs ≡ after (opening_map (opening_with i)) (history execution)
   pub rising : IsRising pairs
 
--- ---- hands and words ----
+-- ---- hands ----
 
 -- the hands of the passes, and the keeper's behind them
 abbrev pub all_hands : List Pass → Keeper → List Hand
 all_hands [] keeper = keeper.hand ∷ []
 all_hands (p ∷ ps) keeper = p.hand ∷ all_hands ps keeper
-
--- the words are those that this execution leaves, after which nobody holds a version lock, of an index
--- that was opened empty
-pub record LeaveAtRest (l : Layout) (words : List ℕ) (o : Opening) (t : Execution) : Type 0 where
-  pub layout : o.layout ≡ l
-  pub empty : opening_map o ≡ []
-  pub valid : Valid o t
-  pub built : AreBuilt t
-  pub stand_for : StandsFor o words t
-  pub unlocked : (hand : ℕ) → HoldsNoLock o hand t
-
--- some execution leaves the words so
-abbrev pub AreAtRest : Layout → List ℕ → Type 0
-AreAtRest l words = (o : Opening) × (t : Execution) × LeaveAtRest l words o t
-
--- whichever execution leaves the words so, it leaves these pairs
-abbrev pub TellPairs : Layout → List ℕ → Map → Type 0
-TellPairs l words pairs =
-    (o : Opening) (t : Execution) → LeaveAtRest l words o t → pairs ≡ after (opening_map o) (history t)
 
 -- ---- the laws ----
 

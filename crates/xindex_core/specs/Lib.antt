@@ -10,6 +10,5 @@ pub mod NoName
 pub mod Waiting
 pub mod Fitting
 pub mod Alone
-pub mod Undisturbed
 pub mod OneOrder
 pub mod Closing

@@ -4,17 +4,18 @@
 ghost use Rattle.std.specs.Prelude.{◌≡◌, ◌≤◌, ◌+◌, [], IfErr, IfOk, length, vec_capacity};
 ghost use Rattle.word_layout.specs.Layout.{limits_of};
 ghost use Rattle.word_layout.specs.Limits.{word_count};
-ghost use Rattle.xindex_core.specs.Closing.{AreAllPasses, AreAtRest, IsClosedWith, TellPairs, all_hands};
+ghost use Rattle.xindex_core.specs.Closing.{AreAllPasses, IsClosedWith, all_hands};
 ghost use Rattle.xindex_core.specs.Passes.{IsKeeperOf};
 
 use crate::index::Index;
 use crate::keeper::Keeper;
 use crate::pass::Pass;
 use index_rule::Hand;
+use resting_table::pairs_of;
 use std::alloc::{AllocError, Global};
 use std::error::Error;
 use std::fmt;
-use word_layout::{HeaderWord, Layout, link_word, says_removed, state_word, value_word};
+use word_layout::Layout;
 
 /// An index that was not closed, since there was not enough memory for its pairs.
 #[derive(Drop)]
@@ -110,28 +111,4 @@ fn hands_of(mut hands: Vec<Hand>, passes: Vec<Pass>, keeper: Keeper) -> Vec<Hand
     let Keeper { hand } = keeper;
     hands.push(hand).unwrap();
     hands
-}
-
-// The pairs in the list of group 0, which has the row of each key: no array has one, since the index was
-// opened empty, and nothing is rebuilt.
-fn pairs_of(words: &[u64], layout: &Layout, mut pairs: Vec<(u64, u64)>) -> Vec<(u64, u64)>
-    requires rest { AreAtRest layout.now words.now }
-    requires none { pairs.items ≡ [] }
-    requires room { (limits_of layout.now).records ≤ vec_capacity pairs }
-    ensures { TellPairs layout.now words.now result.items }
-{
-    let head = layout.header(0, HeaderWord::BufferHead.number());
-    let mut next = words[head as usize] as u32;
-    // The list has no more rows than the table.
-    for _met in 0..layout.limits().records {
-        if next == 0 {
-            break;
-        }
-        if !says_removed(words[state_word(next) as usize]) {
-            let value = words[value_word(next) as usize];
-            pairs.push((words[next as usize], value)).unwrap();
-        }
-        next = words[link_word(next) as usize] as u32;
-    }
-    pairs
 }

@@ -1,11 +1,10 @@
 //! What holds of all callers of an index.
 //!
 //! A function here does nothing: it has a law for its contract, and so the check proves the law.
-ghost use Rattle.xindex_core.specs.Alone.{CallersAloneTellTheMap, CallsAloneHaveAnswers};
+ghost use Rattle.xindex_core.specs.Alone.{CallersAloneTellTheMap};
 ghost use Rattle.xindex_core.specs.Closing.{ClosedLogsHaveOneOrder, PassesInOrderAreAll};
 ghost use Rattle.xindex_core.specs.Naming.{NamesSettleTheIndex};
 ghost use Rattle.xindex_core.specs.OneOrder.{CallersShareOneOrder};
-ghost use Rattle.xindex_core.specs.Undisturbed.{UndisturbedTriesEnd};
 
 /// Where caller 0 alone changes an index that was opened empty, the log of its calls tells the map, and
 /// each of its answers is true of it.
@@ -13,21 +12,10 @@ pub fn callers_alone_tell_the_map()
     ensures { CallersAloneTellTheMap }
 {}
 
-/// Such a caller has an answer to each call of one key.
-pub fn calls_alone_have_answers()
-    ensures { CallsAloneHaveAnswers }
-{}
-
 /// Whoever has a pass or the keeper of an index has one of the index with its name: so it may be wrapped
 /// in a `NamedPass` or a `NamedKeeper`.
 pub fn names_settle_the_index()
     ensures { NamesSettleTheIndex }
-{}
-
-/// A try is to be tried again only where another hand made a step during it, or held a version lock
-/// as it began, or where it met a frozen group.
-pub fn undisturbed_tries_end()
-    ensures { UndisturbedTriesEnd }
 {}
 
 /// Once passes of an index know the same, the entries of their logs have one order, and each is true of

@@ -22,9 +22,8 @@ pub use index::{Index, OpenError, Opened};
 pub use index_rule::Note;
 pub use keeper::Keeper;
 pub use laws::{
-    callers_alone_tell_the_map, callers_share_one_order, calls_alone_have_answers,
-    closed_logs_have_one_order, names_settle_the_index, passes_in_order_are_all,
-    undisturbed_tries_end,
+    callers_alone_tell_the_map, callers_share_one_order, closed_logs_have_one_order,
+    names_settle_the_index, passes_in_order_are_all,
 };
 pub use named::{NamedKeeper, NamedPass};
 pub use naming::Name;

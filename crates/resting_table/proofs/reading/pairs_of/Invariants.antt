@@ -2,9 +2,9 @@ use Rattle.std.proofs.Common.{◌≤◌, vec_capacity}
 use Rattle.word_layout.specs.Layout.{limits_of}
 use Rattle.index_machine.specs.declared.opening.Opening.{Opening}
 use Rattle.index_machine.specs.Execution.{Execution}
-use Rattle.xindex_core.specs.Closing.{LeaveAtRest}
-use Rattle.xindex_core.proofs.RestingWords.{Reads}
-use Rattle.xindex_core.proofs.closing.pairs_of.Given as goal
+use Rattle.resting_table.specs.Resting.{LeaveAtRest}
+use Rattle.resting_table.proofs.RestingWords.{Reads}
+use Rattle.resting_table.proofs.reading.pairs_of.Given as goal
 
 abbrev pub invariant-loop-met : goal.invariant-loop-met
 invariant-loop-met l =

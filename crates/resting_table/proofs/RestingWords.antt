@@ -48,10 +48,10 @@ use Rattle.index_rule.specs.BuiltLaws.{IsInPlace}
 use Rattle.index_rule.proofs.BuiltLaws.{arrays_as_opened, groups_as_opened, in_place}
 use Rattle.index_rule.proofs.RecordSteps.{place_below}
 use Rattle.delta_buffer.proofs.RowWalks.{rows_within}
-use Rattle.xindex_core.specs.Closing.{LeaveAtRest}
-use Rattle.xindex_core.proofs.KeptPairs.{first_of, from_behind, from_zero, kept, kept-length, kept_more}
-use Rattle.xindex_core.proofs.KeptPairs.{look_kept, look_middle, pair_if, rising_kept, same_pairs, value_at}
-use Rattle.xindex_core.proofs.OneGroup.{rows_at_first}
+use Rattle.resting_table.specs.Resting.{LeaveAtRest}
+use Rattle.resting_table.proofs.KeptPairs.{first_of, from_behind, from_zero, kept, kept-length, kept_more}
+use Rattle.resting_table.proofs.KeptPairs.{look_kept, look_middle, pair_if, rising_kept, same_pairs, value_at}
+use Rattle.resting_table.proofs.OneGroup.{rows_at_first}
 
 -- the value at a place, if it has one
 abbrev pub value_of : Opening → Execution → ℕ → Option ℕ

@@ -6,12 +6,12 @@ use Rattle.word_layout.specs.declared.places.Part.TheVariants as part
 use Rattle.word_layout.specs.Headers.{header_word}
 use Rattle.word_layout.specs.Layout.{limits_of}
 use Rattle.word_layout.specs.Words.{Header, address_of}
-use Rattle.xindex_core.proofs.RestingWords.{Reads, few_kept, head_is, meets, next_small, read_all, read_to_end}
-use Rattle.xindex_core.proofs.RestingWords.{reads_none, reads_on, row_dropped, row_kept, row_within}
-use Rattle.xindex_core.proofs.RestingWords.{row_word, state_says, value_of}
-use Rattle.xindex_core.proofs.KeptPairs.{pair_if, pushed}
-use Rattle.xindex_core.proofs.closing.pairs_of.Goals as goal
-use Rattle.xindex_core.proofs.closing.pairs_of.Goals.{then-not-says_removed, else-not-says_removed}
+use Rattle.resting_table.proofs.RestingWords.{Reads, few_kept, head_is, meets, next_small, read_all, read_to_end}
+use Rattle.resting_table.proofs.RestingWords.{reads_none, reads_on, row_dropped, row_kept, row_within}
+use Rattle.resting_table.proofs.RestingWords.{row_word, state_says, value_of}
+use Rattle.resting_table.proofs.KeptPairs.{pair_if, pushed}
+use Rattle.resting_table.proofs.reading.pairs_of.Goals as goal
+use Rattle.resting_table.proofs.reading.pairs_of.Goals.{then-not-says_removed, else-not-says_removed}
 
 pub overflow_cast-next-2 : goal.overflow_cast-next-2
 overflow_cast-next-2 c =

@@ -38,10 +38,10 @@ use Rattle.xindex_core.specs.declared.index.Index.{Index}
 use Rattle.xindex_core.specs.declared.pass.Pass.{Pass}
 use Rattle.xindex_core.specs.Passes.{IsPassOf, known_to, number_of, opening_with}
 use Rattle.xindex_core.specs.Tries.{StepsTell, Tries}
-use Rattle.xindex_core.specs.Undisturbed.{IsAllBy, IsUndisturbed, OthersHoldNoLock}
-use Rattle.xindex_core.specs.Undisturbed.{UndisturbedTriesEnd}
-use Rattle.xindex_core.proofs.OwnEvents.{ContinuesAlone, before_first, moment_alone, part_alone}
-use Rattle.xindex_core.proofs.OwnEvents.{unlocked_on}
+use Rattle.index_laws.specs.Undisturbed.{IsAllBy, IsUndisturbed, OthersHoldNoLock}
+use Rattle.index_laws.specs.Undisturbed.{UndisturbedTriesEnd}
+use Rattle.index_laws.proofs.OwnEvents.{ContinuesAlone, before_first, moment_alone, part_alone}
+use Rattle.index_laws.proofs.OwnEvents.{unlocked_on}
 use Rattle.xindex_core.proofs.Trying.{get_since, put_since, remove_since}
 
 -- ---- words ----

@@ -17,7 +17,7 @@ use Rattle.index_machine.specs.Forms.{form_after, with_lock, with_value, without
 use Rattle.index_machine.specs.Places.{first_version, form}
 use Rattle.index_machine.specs.Sections.{IsCaller}
 use Rattle.index_machine.proofs.Holders.{holds_no_lock_after}
-use Rattle.xindex_core.specs.Undisturbed.{IsAllBy, OthersHoldNoLock}
+use Rattle.index_laws.specs.Undisturbed.{IsAllBy, OthersHoldNoLock}
 
 -- ---- where they begin ----
 

@@ -10,7 +10,8 @@ use Rattle.map_model.specs.Entry.{IsFound}
 use Rattle.map_model.specs.Logs.{Log, changes_of}
 use Rattle.map_model.specs.Map.{IsRising, look}
 use Rattle.map_model.proofs.Pairs.{found-at_one, rising-put, rising-remove}
-use Rattle.xindex_core.specs.Alone.{AnswersAlone, CallsAloneHaveAnswers, map_of}
+use Rattle.xindex_core.specs.Alone.{AnswersAlone, map_of}
+use Rattle.index_laws.specs.AloneAnswers.{CallsAloneHaveAnswers}
 
 -- the log with a look at the key, at its end
 look_at : Log → ℕ → Log

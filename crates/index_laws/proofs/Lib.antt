@@ -1,0 +1,3 @@
+mod AloneAnswers
+mod OwnEvents
+mod Undisturbed

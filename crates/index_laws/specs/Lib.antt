@@ -1,0 +1,2 @@
+pub mod AloneAnswers
+pub mod Undisturbed

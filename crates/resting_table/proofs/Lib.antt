@@ -1,0 +1,3 @@
+mod KeptPairs
+mod OneGroup
+mod RestingWords
