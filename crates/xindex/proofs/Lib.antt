@@ -1,3 +1,2 @@
 pub mod LimitLaws
 pub mod Sessions
-pub mod PlainSessions

@@ -1,4 +1,2 @@
 pub mod Outcome
 pub mod Served
-pub mod PlainLaw
-pub mod Real

@@ -1,7 +1,7 @@
 //! What is written to a real stream.
 ghost use Rattle.std.specs.Prelude.{◌≡◌, ◌<◌, length, MatchResult};
 ghost use Rattle.line_session.specs.Ends.{Writes};
-ghost use Rattle.xindex.specs.Real.{WritesStream, sink_state};
+ghost use Rattle.standard_ends.specs.Real.{WritesStream, sink_state};
 
 use line_session::{Ends, Gave, Sink};
 use std::io;
@@ -17,7 +17,7 @@ pub struct StandardOutput<W: Write + Drop> {
 }
 
 impl<W: Write + Drop> Model for StandardOutput<W> {
-    ghost use Rattle.xindex.specs.Real.{StreamState};
+    ghost use Rattle.standard_ends.specs.Real.{StreamState};
 
     ghost Value = { StreamState };
 

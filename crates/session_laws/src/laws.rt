@@ -1,8 +1,8 @@
 //! What holds of all sessions over an index that nobody else changes.
 //!
 //! The functions do nothing: each has a law for its contract, and so the check proves the law.
-ghost use Rattle.xindex.specs.PlainLaw.{BytesAloneHaveOneText, PlainSessionsHaveTheSameReplies};
-ghost use Rattle.xindex.specs.PlainLaw.{SessionsAloneArePlain};
+ghost use Rattle.session_laws.specs.PlainLaw.{BytesAloneHaveOneText, PlainSessionsHaveTheSameReplies};
+ghost use Rattle.session_laws.specs.PlainLaw.{SessionsAloneArePlain};
 
 /// Where no reply is `full` or `worn`, the session is one over a plain map too, with the same requests and
 /// replies, and it leaves the map that the log tells.

@@ -1,7 +1,7 @@
 //! What is read from a real stream.
 ghost use Rattle.std.specs.Prelude.{◌≡◌, ◌<◌, length};
 ghost use Rattle.line_session.specs.Ends.{Reads};
-ghost use Rattle.xindex.specs.Real.{ReadsStream, source_state};
+ghost use Rattle.standard_ends.specs.Real.{ReadsStream, source_state};
 
 use line_session::{Ends, Source, Took};
 use std::io::Read;
@@ -16,7 +16,7 @@ pub struct StandardInput<R: Read + Drop> {
 }
 
 impl<R: Read + Drop> Model for StandardInput<R> {
-    ghost use Rattle.xindex.specs.Real.{StreamState};
+    ghost use Rattle.standard_ends.specs.Real.{StreamState};
 
     ghost Value = { StreamState };
 

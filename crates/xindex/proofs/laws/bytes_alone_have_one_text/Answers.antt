@@ -1,5 +1,0 @@
-use Rattle.xindex.proofs.PlainSessions.{bytes_alone_have_one_text}
-use Rattle.xindex.proofs.laws.bytes_alone_have_one_text.Goals as goal
-
-pub returns : goal.returns
-returns c = bytes_alone_have_one_text
