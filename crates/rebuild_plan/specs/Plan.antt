@@ -46,7 +46,7 @@ pub record DividesRecords (records groups share : ℕ) : Type 0 where
 abbrev pub most_lanes : ℕ
 most_lanes = 8
 
--- how many of a group's records lie in a lane: as few as the most lanes allow, and at least one
+-- how many of a group's records a lane has at most: as few as the most lanes allow, and at least one
 abbrev pub lane_width : ℕ → ℕ
 lane_width records = max 1 (div_ceil records most_lanes)
 

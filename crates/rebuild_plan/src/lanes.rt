@@ -1,6 +1,7 @@
 //! Into how many lanes the buffer of a new group is cut, and how many of the group's records lie in each.
 //!
-//! Lanes are cut by the records that the plan counted for the group, so each lane begins at the key of one of them.
+//! Lanes are cut by the records that the plan counted for the group, so each lane but the first begins at the key
+//! of one of them. The first begins at the group's pivot.
 ghost use Rattle.std.specs.Prelude.{◌≡◌, ℕ, ◌*◌, ◌<◌, ◌≤◌};
 ghost use Rattle.rebuild_plan.specs.Plan.{most_lanes, lane_width, lane_count, first_record};
 ghost use Rattle.rebuild_plan.specs.Plan.{DividesRecords};

@@ -1,7 +1,7 @@
 //! The numbers of a rebuild: when a group is rebuilt, into how many groups its records go, how many each of
 //! them gets, into how many lanes a group's buffer is cut, and which groups the root's slots name.
 //!
-//! Each new group begins with at least one record, where there are any, and is at most three quarters full.
+//! By the plan each new group is given at least one record, where there are any, and is at most three quarters full.
 #![tactic(auto)]
 
 mod lanes;

@@ -1,6 +1,6 @@
 //! A whole trace, which is given as one text.
 //!
-//! Lines that are skipped take no memory, so a text of comments or of empty lines costs none.
+//! Room is taken at once, for as many lines as a text of this length and with these newlines can have.
 ghost use Rattle.std.specs.Prelude.{◌≡◌, ◌≢◌, ◌<◌, ◌≤◌, ℕ, [], ◌∷◌, ◌++◌, IfOk, OnOk, MatchResult, length, slice_index};
 ghost use Rattle.std.specs.List.{AllByRecursion, filter};
 ghost use Rattle.trace_text.specs.Lines.{IsLineFor};

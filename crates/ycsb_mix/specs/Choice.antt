@@ -1,4 +1,4 @@
--- How a rank is chosen: a rank has the more weight the lower it is.
+-- How a rank is chosen: no rank has more weight than a lower one.
 use Rattle.std.specs.Prelude.{◌≡◌, ℕ, ◌+◌, ◌*◌, ◌/◌, ◌%◌, ◌^◌, List, length, map, nat_lt}
 use Rattle.std.specs.List.{position_or_len, range_with_len, sum_by}
 

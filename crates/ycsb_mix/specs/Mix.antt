@@ -94,7 +94,7 @@ line_of (step.Scan from count) = pair_line (codes "scan ") from count
 abbrev pub text_of : Mix → ℕ → ℕ → ℕ → ℕ → List ℕ
 text_of mix load ops callers seed = flat_map line_of (steps_of mix load ops callers seed)
 
--- what the line of a step says; a scan is no call of a trace yet
+-- what the line of a step says; the line of a scan is bad yet, so that step stands for nothing here
 abbrev pub said_by : Step → Line
 said_by step.Phase = line.Phase
 said_by (step.Caller caller) = line.Caller caller

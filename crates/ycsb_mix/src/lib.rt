@@ -1,6 +1,7 @@
 //! Traces in the proportions of YCSB's core mixes, as a function of a seed.
 //!
-//! A key is chosen by whole-number weights, so that few keys are asked for often. Each get finds its key.
+//! A key is chosen by whole-number weights, so that few keys are asked for often. Each get finds its key, while no
+//! put was refused.
 #![tactic(auto)]
 
 mod choice;

@@ -12,7 +12,8 @@ use std::alloc::{AllocError, Global};
 
 /// The steps of a mix, in order, for the numbers that `write_mix` takes.
 ///
-/// The error is want of memory. A step takes 24 bytes, and an operation 12 more until its steps are made.
+/// The error is want of memory. Room is taken for two steps of 24 bytes an operation. Until the steps are
+/// made, each operation takes 12 bytes more, each key of the load 8, and each key that is inserted 4.
 pub fn mix_steps(
     alloc: Global,
     mix: Mix,
