@@ -14,6 +14,8 @@ mod maps;
 #[cfg(test)]
 mod mixes;
 #[cfg(test)]
+mod parts;
+#[cfg(test)]
 mod plans;
 #[cfg(test)]
 mod replies;

@@ -175,9 +175,14 @@ fn written(alloc: Global, mix: Mix, numbers: [u32; 3], seed: u64) -> Result<Byte
 #[test]
 fn a_trace_is_read_as_the_lines_of_its_mix(rt: HostRuntime) -> Result<(), Fail> {
     let sink = written(rt.alloc(), Mix::F, [9, 70, 4], 3)?;
-    let read = read_trace(rt.alloc(), sink.bytes(), 4);
-    let lines = mix_lines(rt.alloc(), Mix::F, 9, 70, 4, 3)?;
-    assert_eq!(rt; read.ok().as_deref(), Some(&lines[..]));
+    let read = read_trace(rt.alloc(), sink.bytes(), 4).expect(&rt, "a trace");
+    let made = mix_lines(rt.alloc(), Mix::F, 9, 70, 4, 3)?;
+    let (mut read, mut made) = (read.cursor(), made.cursor());
+    // Beyond the end of both there is nothing more.
+    for at in 0..200 {
+        assert_eq!(rt; read.next_line(), made.next_line(), "line {at}");
+    }
+    assert_eq!(rt; made.next_line(), None);
     Ok(())
 }
 

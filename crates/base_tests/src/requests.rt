@@ -4,7 +4,7 @@ use wire_commands::{Feed, Reason, Request, read_line};
 #[test]
 fn a_line_is_a_request_of_its_form(rt: HostRuntime) {
     let put = Request::Put { key: 1, value: 2 };
-    let rows: [(&[u8], Request); 10] = [
+    let rows: [(&[u8], Request); 14] = [
         (b"get 0", Request::Get { key: 0 }),
         (b" get  007 ", Request::Get { key: 7 }),
         (b"\tget\t7", Request::Get { key: 7 }),
@@ -13,6 +13,20 @@ fn a_line_is_a_request_of_its_form(rt: HostRuntime) {
             b"get 000000000000000000000000000000009",
             Request::Get { key: 9 },
         ),
+        (
+            b"get 9999999999999999999",
+            Request::Get {
+                key: 9_999_999_999_999_999_999,
+            },
+        ),
+        (
+            b"get 10000000000000000000",
+            Request::Get {
+                key: 10_000_000_000_000_000_000,
+            },
+        ),
+        (b"put 01 00000000000000000002", put),
+        (b"\tput  1\t 2  ", put),
         (b"put 1 2", put),
         (b"put 1 2\r", put),
         (b"remove 10", Request::Remove { key: 10 }),
@@ -26,7 +40,7 @@ fn a_line_is_a_request_of_its_form(rt: HostRuntime) {
 
 #[test]
 fn a_bad_line_has_the_first_reason_that_holds(rt: HostRuntime) {
-    let rows: [(&[u8], Reason); 22] = [
+    let rows: [(&[u8], Reason); 26] = [
         (&[b'a'; 81], Reason::Long),
         (&[b' '; 81], Reason::Long),
         (b"", Reason::Empty),
@@ -47,7 +61,11 @@ fn a_bad_line_has_the_first_reason_that_holds(rt: HostRuntime) {
         (b"get 1\r\r", Reason::Number),
         (b"put x 99999999999999999999", Reason::Number),
         (b"put 99999999999999999999 x", Reason::Number),
+        (b"get 1 2", Reason::Count),
+        (b"put 1 2 3", Reason::Count),
+        (b"put 12345678901234567890x 1", Reason::Number),
         (b"get 18446744073709551616", Reason::Range),
+        (b"get 99999999999999999999", Reason::Range),
         (b"put 0 99999999999999999999", Reason::Range),
     ];
     for (line, reason) in rows {
@@ -83,6 +101,51 @@ fn a_request_comes_with_its_newline_or_the_end(rt: HostRuntime) {
     assert_eq!(rt; feed.end(), None);
     assert_eq!(rt; feed.byte(b'\r'), None);
     assert_eq!(rt; feed.end(), Some(Request::Bad(Reason::Empty)));
+}
+
+#[test]
+fn lines_that_come_some_at_a_time_are_read_however_they_are_cut(rt: HostRuntime) {
+    let mut feed = Feed::new();
+    let put = Request::Put { key: 1, value: 2 };
+    for cut in 0..INPUT.len() {
+        let (first, second) = INPUT.split_at(cut);
+        let mut wanted = [
+            put,
+            Request::Bad(Reason::Empty),
+            Request::Bad(Reason::Number),
+        ]
+        .into_iter();
+        for piece in [first, second] {
+            let mut rest = piece;
+            // No piece has more lines than bytes.
+            for _ in 0..piece.len() {
+                let Some((request, more)) = feed.line(rest) else {
+                    break;
+                };
+                assert_eq!(rt; Some(request), wanted.next(), "cut at {cut}");
+                rest = more;
+            }
+        }
+        assert_eq!(rt; wanted.next(), None, "cut at {cut}");
+        assert_eq!(rt; feed.end(), Some(Request::Get { key: 1 }), "cut at {cut}");
+    }
+}
+
+#[test]
+fn a_long_line_that_comes_in_pieces_is_too_long(rt: HostRuntime) {
+    let mut feed = Feed::new();
+    for length in [79, 80, 81, 200] {
+        let reason = if length > 80 {
+            Reason::Long
+        } else {
+            Reason::Word
+        };
+        assert_eq!(rt; feed.line(&[b'a'; 200][..length - 1]), None);
+        let ended = feed.line(b"a\nget 7\n");
+        assert_eq!(rt; ended, Some((Request::Bad(reason), b"get 7\n".as_slice())));
+        let ended = feed.line(b"get 7\n");
+        assert_eq!(rt; ended, Some((Request::Get { key: 7 }, b"".as_slice())));
+    }
 }
 
 #[test]

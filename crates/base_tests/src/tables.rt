@@ -1,11 +1,11 @@
-//! How many words a table has, where its parts are, and which limits make none.
+//! How many words a table has, where they stand, and which limits make none.
 use std::test::Fail;
 use word_layout::{BadLimit, HeaderWord, Limits};
 
 #[test]
 fn the_standard_limits_make_a_table_of_known_size(rt: HostRuntime) {
     let words = Limits::standard().layout().map(|layout| layout.words());
-    assert_eq!(rt; words, Ok(527366));
+    assert_eq!(rt; words, Ok(531462));
 }
 
 #[test]
@@ -46,14 +46,14 @@ fn the_first_rule_that_is_broken_is_named(rt: HostRuntime) -> Result<(), Fail> {
 #[test]
 fn limits_at_the_ends_of_their_ranges_are_taken(rt: HostRuntime) {
     let table = [
-        (527363, ("callers", 1)),
-        (527426, ("callers", 64)),
-        (265230, ("records", 2)),
-        (67374086, ("records", 16777216)),
-        (265238, ("groups", 2)),
-        (526346, ("slots", 1)),
-        (542726, ("slots", 4096)),
-        (527366, ("due", 256)),
+        (531459, ("callers", 1)),
+        (531522, ("callers", 64)),
+        (269326, ("records", 2)),
+        (67378182, ("records", 16777216)),
+        (265270, ("groups", 2)),
+        (530442, ("slots", 1)),
+        (546822, ("slots", 4096)),
+        (531462, ("due", 256)),
     ];
     for (words, change) in table {
         let layout = changed(&[change]).layout();
@@ -69,7 +69,7 @@ fn limits_at_the_ends_of_their_ranges_are_taken(rt: HostRuntime) {
 fn the_first_version_is_at_most_the_last_one(rt: HostRuntime) {
     let mut limits = Limits::standard();
     limits.first_version = 1152921504606846975;
-    assert_eq!(rt; limits.layout().map(|layout| layout.words()), Ok(527366));
+    assert_eq!(rt; limits.layout().map(|layout| layout.words()), Ok(531462));
     limits.first_version += 1;
     let refused = Err(BadLimit { number: 9 });
     assert_eq!(rt; limits.layout().map(|layout| layout.words()), refused);
@@ -94,7 +94,7 @@ fn changed(changes: &[(&str, u32)]) -> Limits {
 }
 
 #[test]
-fn a_small_table_has_its_parts_behind_one_another(rt: HostRuntime) {
+fn a_small_table_has_its_words_behind_one_another(rt: HostRuntime) {
     let limits = Limits {
         callers: 3,
         records: 2,
@@ -109,15 +109,17 @@ fn a_small_table_has_its_parts_behind_one_another(rt: HostRuntime) {
     let layout = limits.layout();
     assert!(rt; layout.is_ok());
     if let Ok(layout) = layout {
-        assert_eq!(rt; layout.words(), 97);
+        assert_eq!(rt; layout.words(), 129);
         assert_eq!(rt; layout.limits(), limits);
         assert_eq!(rt; (layout.epoch(0), layout.epoch(2)), (2, 4));
         assert_eq!(rt; (layout.free_head(), layout.root()), (0, 1));
         assert_eq!(rt; (layout.slot(0, 0), layout.slot_group(0, 0)), (5, 6));
         assert_eq!(rt; (layout.slot(1, 0), layout.slot_group(1, 0)), (7, 8));
-        let (first, last) = (HeaderWord::Pivot.number(), HeaderWord::SecondSpare.number());
-        assert_eq!(rt; (layout.header(0, first), layout.header(1, last)), (9, 56));
-        assert_eq!(rt; (layout.array(0, 0), layout.array(1, 7)), (17, 85));
-        assert_eq!(rt; (layout.row(0), layout.row(1)), (89, 93));
+        let (first, last) = (HeaderWord::Pivot.number(), HeaderWord::Next.number());
+        assert_eq!(rt; (layout.header(0, first), layout.header(1, last)), (9, 70));
+        assert_eq!(rt; (layout.lane_head(0, 0), layout.lane_head(1, 7)), (17, 80));
+        assert_eq!(rt; (layout.lane_cut(0, 0), layout.lane_cut(1, 7)), (25, 88));
+        assert_eq!(rt; (layout.array(0, 0), layout.array(1, 7)), (33, 117));
+        assert_eq!(rt; (layout.row(0), layout.row(1)), (121, 125));
     }
 }

@@ -1,5 +1,7 @@
 //! The lines of a trace, and its first bad line.
-use trace_text::{Line, TraceError, read_trace, read_trace_line};
+use std::process::Abort;
+use std::test::Fail;
+use trace_text::{Line, Trace, TraceError, read_trace, read_trace_line};
 use wire_commands::Request;
 
 #[test]
@@ -49,6 +51,15 @@ fn every_other_line_is_bad(rt: HostRuntime) {
     assert_eq!(rt; read_trace_line(&long[..80], 4), Some(Line::Phase));
 }
 
+/// The lines of a trace are these, in order.
+pub(crate) fn assert_lines<R: Abort>(rt: &R, trace: &Trace, lines: &[Line]) {
+    let mut cursor = trace.cursor();
+    for (at, &line) in lines.iter().enumerate() {
+        assert_eq!(rt; cursor.next_line(), Some(line), "line {at}");
+    }
+    assert_eq!(rt; cursor.next_line(), None);
+}
+
 const TWO_PHASES: &[u8] = b"phase\ncaller 0\nput 1 10\r\n\n# two\ncaller 1\nput 2 20\nphase\nget 2";
 
 #[test]
@@ -62,10 +73,44 @@ fn a_trace_is_its_lines_without_the_skipped_ones(rt: HostRuntime) {
         Line::Phase,
         Line::Call(Request::Get { key: 2 }),
     ];
-    let lines = read_trace(rt.alloc(), TWO_PHASES, 2).expect(&rt, "memory");
-    assert_eq!(rt; &lines[..], want.as_slice());
+    let trace = read_trace(rt.alloc(), TWO_PHASES, 2).expect(&rt, "memory");
+    assert_lines(&rt, &trace, &want);
     let none = read_trace(rt.alloc(), b"", 1).expect(&rt, "memory");
-    assert!(rt; none.is_empty());
+    assert_lines(&rt, &none, &[]);
+}
+
+#[test]
+fn a_trace_grows_line_by_line(rt: HostRuntime) -> Result<(), Fail> {
+    let mut trace = Trace::new(rt.alloc());
+    let lines = [
+        Line::Caller(u32::MAX),
+        Line::Call(Request::Put {
+            key: 1,
+            value: u64::MAX,
+        }),
+        Line::Phase,
+        Line::Call(Request::Remove { key: 1 }),
+    ];
+    for line in lines {
+        trace.push(line)?;
+        trace.push(Line::Skip)?;
+    }
+    assert_lines(&rt, &trace, &lines);
+    let mut cursor = trace.cursor();
+    assert_eq!(rt; cursor.next_line(), Some(lines[0]));
+    let mut other = cursor.again();
+    assert_eq!(rt; other.next_line(), Some(lines[1]));
+    assert_eq!(rt; cursor.next_line(), Some(lines[1]));
+    Ok(())
+}
+
+#[test]
+fn each_error_of_a_trace_is_told(rt: HostRuntime) -> Result<(), Fail> {
+    let bad = format!(in rt.alloc(); "{}", TraceError::BadLine { number: 7 })?;
+    assert_eq!(rt; bad.as_str(), "bad line 7");
+    let memory = format!(in rt.alloc(); "{}", TraceError::Memory)?;
+    assert_eq!(rt; memory.as_str(), "not enough memory for the trace");
+    Ok(())
 }
 
 #[test]

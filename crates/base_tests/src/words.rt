@@ -88,7 +88,7 @@ fn each_phase_has_its_word_and_is_read_back(rt: HostRuntime) {
         (1, Phase::Frozen),
         (2, Phase::Opened { first: 0 }),
         (6, Phase::Opened { first: 1 }),
-        (262142, Phase::Opened { first: 65535 }),
+        (4194302, Phase::Opened { first: 1048575 }),
     ];
     for (word, phase) in table {
         assert_eq!(rt; Phase::read(word), Some(phase), "at {word}");
@@ -100,7 +100,7 @@ fn each_phase_has_its_word_and_is_read_back(rt: HostRuntime) {
 
 #[test]
 fn a_word_that_no_phase_has_is_not_read(rt: HostRuntime) {
-    for word in [3, 4, 5, 7, 8, 262146, u64::MAX] {
+    for word in [3, 4, 5, 7, 8, 4194306, u64::MAX] {
         assert_eq!(rt; Phase::read(word), None, "at {word}");
     }
 }
@@ -115,15 +115,21 @@ fn the_words_of_a_place_are_behind_its_key(rt: HostRuntime) {
 
 #[test]
 fn the_words_of_a_header_count_from_its_pivot(rt: HostRuntime) {
-    let words = [
-        HeaderWord::Pivot,
-        HeaderWord::Size,
-        HeaderWord::LineError,
-        HeaderWord::BufferHead,
-        HeaderWord::Phase,
-        HeaderWord::Next,
-        HeaderWord::FirstSpare,
-        HeaderWord::SecondSpare,
-    ];
-    assert_eq!(rt; words.map(|word| word.number()), [0, 1, 2, 3, 4, 5, 6, 7]);
+    let pivot = HeaderWord::Pivot.number();
+    let (size, error) = (HeaderWord::Size.number(), HeaderWord::LineError.number());
+    let (lanes, phase) = (HeaderWord::Lanes.number(), HeaderWord::Phase.number());
+    let next = HeaderWord::Next.number();
+    assert_eq!(rt;
+        [pivot, size, error, lanes, phase, next],
+        [0, 1, 2, 3, 4, 5]
+    );
+    let (first, second) = (
+        HeaderWord::FirstSpare.number(),
+        HeaderWord::SecondSpare.number(),
+    );
+    assert_eq!(rt; (first, second), (6, 7));
+    for lane in 0..8 {
+        assert_eq!(rt; HeaderWord::Head { lane }.number(), 8 + lane);
+        assert_eq!(rt; HeaderWord::Cut { lane }.number(), 16 + lane);
+    }
 }

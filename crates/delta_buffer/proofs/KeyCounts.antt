@@ -7,14 +7,11 @@ use mathlib.Core.Logic.{dite}
 use native.Mathlib.Decide.{ℕ_discrete}
 use Rattle.map_model.specs.Map.{IsRising, Map, look}
 use Rattle.index_machine.specs.Lists.{In}
-use Rattle.machine_buffers.proofs.LaneWalks.{none_unless}
+use Rattle.delta_buffer.specs.Counting.{keys_below, one_if}
+use Rattle.machine_buffers.proofs.NextRows.{none_unless}
 use Rattle.machine_buffers.proofs.NextRows.{found_on, look_first, look_other, none_in_empty}
 
 -- ---- the count ----
-
-abbrev one_if : Option ℕ → ℕ
-one_if None = 0
-one_if (Some q) = 1
 
 one_if-most : (x : Option ℕ) → one_if x ≤ 1
 one_if-most None = omega arith
@@ -23,11 +20,6 @@ one_if-most (Some q) = omega arith
 one_if-kept : (x y : Option ℕ) → ((q : ℕ) → x ≡ Some q → y ≡ Some q) → one_if x ≤ one_if y
 one_if-kept None y kept = omega arith
 one_if-kept (Some q) y kept = let same = ap one_if (kept q refl) in omega arith
-
--- how many keys of the map are below this one
-pub keys_below : ℕ → Map → ℕ
-keys_below zero m = 0
-keys_below (suc n) m = keys_below n m + one_if (look m n)
 
 pub below_zero : (m : Map) → keys_below 0 m ≡ 0
 unfolding keys_below
@@ -39,7 +31,7 @@ below_suc n m = refl
 
 -- ---- along the keys ----
 
-below_rise : (low n : ℕ) (m : Map) → low ≤ n → keys_below low m ≤ keys_below n m
+pub below_rise : (low n : ℕ) (m : Map) → low ≤ n → keys_below low m ≤ keys_below n m
 below_rise low zero m le =
     let same : keys_below low m ≡ keys_below 0 m =
     ap (λ (k : ℕ). keys_below k m) (let e : low ≡ 0 = omega arith in e) in
@@ -68,6 +60,14 @@ below_gap low (suc n) m le none =
     let one = below_suc n m in
     let here : one_if (look m n) ≡ 0 = ap one_if (none n (omega arith) (omega arith)) in
     omega arith)
+
+-- so it grows to none further on
+pub below_to : (low n : ℕ) (m : Map) → ((k : ℕ) → low ≤ k → k < n → look m k ≡ None) →
+    keys_below n m ≤ keys_below low m
+below_to low n m none =
+    dite (ℕ_discrete (low - n) 0)
+    (λ (e : low - n ≡ 0). below_gap low n m (omega arith) none)
+    (λ (differ : low - n ≢ 0). below_rise n low m (omega arith))
 
 -- and is one more at most behind the first key
 pub below_next_most : (low j : ℕ) (m : Map) →

@@ -6,3 +6,4 @@ pub mod Linking
 pub mod Carrying
 mod KeyCounts
 pub mod RowWalks
+pub mod LaneCounts

@@ -26,6 +26,7 @@ use Rattle.index_machine.specs.Permissions.{IsBufferFor, MayInsertInto}
 use Rattle.index_machine.specs.Places.{first_version}
 use Rattle.index_machine.specs.Rows.{InBuffer, role}
 use Rattle.index_machine.specs.Sections.{IsCaller, IsNoCrossing, StaysInside}
+use Rattle.index_machine.specs.Lanes.{HasLane}
 use Rattle.index_machine.specs.Words.{limits, word}
 use Rattle.index_machine.proofs.Executions.{choice-same}
 use Rattle.machine_buffers.specs.Walks.{IsLinkBefore}
@@ -41,6 +42,7 @@ use Rattle.index_rule.specs.Buffers.{BelongsWhileAbsent, IsBehindKey, IsFilled, 
 use Rattle.index_rule.specs.Buffers.{MayInsertRow, inserted_by, key_in}
 use Rattle.index_rule.specs.Hands.{IsHandOf, Makes, known, opening_of, view}
 use Rattle.index_rule.specs.Moments.{AddsChange, AddsNoEntry}
+use Rattle.index_rule.proofs.BufferStepping.{still_in_lane}
 use Rattle.index_rule.proofs.BufferSteps.{row_by_hand}
 use Rattle.index_rule.proofs.Calls.{begins, begun_on, from_there, is_within, up_to}
 use Rattle.index_rule.proofs.RecordReading.{log_is, no_entry}
@@ -50,11 +52,12 @@ use Rattle.index_rule.proofs.Stepping.{valid_after}
 use Rattle.index_rule.proofs.Elsewhere.{KnowsNoneElsewhere, elsewhere_now, elsewhere_on}
 use Rattle.index_rule.proofs.Elsewhere.{lives_nowhere, not_in_map}
 use Rattle.index_rule.proofs.HeldRows.{other_word, stored_word, stores_part}
+use Rattle.sorted_group.specs.Standing.{CanSearch}
+use Rattle.sorted_group.proofs.BufferLoads.{can_walk, search_after, searches_follow}
 use Rattle.delta_buffer.specs.Inserting.{CanInsert, InsertTells, Inserts, KeepsRow, OnlyStores}
 use Rattle.delta_buffer.specs.Inserting.{BelongsUntilLinked, IsPrivateStore}
 use Rattle.delta_buffer.specs.Inserting.{KeysWithoutAValueBelong, change_of}
-use Rattle.delta_buffer.specs.Searching.{CanSearch}
-use Rattle.delta_buffer.proofs.Stepping.{before_after, search_after}
+use Rattle.delta_buffer.proofs.Stepping.{before_after}
 
 -- ---- what others do ----
 
@@ -118,8 +121,8 @@ stores_link b h n place row address next same at m =
     stores_part b h n place place address Link next next refl
     (at ∙ ap (λ (p : ℕ). part_address p Link) same) refl m
 
-module _ (b : Board) (g place before next : ℕ) (h n : Hand) (can : CanSearch b g h)
-    (may : CanInsert (opening_of b) h.number g place before next (known h))
+module _ (b : Board) (g lane place before next : ℕ) (h n : Hand) (can : CanSearch b g h)
+    (may : CanInsert (opening_of b) h.number g lane place before next (known h))
     (m : Makes b h (StorePrivate place Link next) n) where
   key_kept : key_in (opening_of b) place (known n) ≡ key_in (opening_of b) place (known h)
   key_kept = other_word b h n place Link next can.call.of m may.filled.held Key (λ z. omega (arith, z))
@@ -163,7 +166,7 @@ module _ (b : Board) (g place before next : ℕ) (h n : Hand) (can : CanSearch b
             ∙ z.1,
         z.2,
       ))
-      may.between.1)
+      may.between.2)
 
   belongs_on : BelongsWhileAbsent (opening_of b) n.number g
       (key_in (opening_of b) place (known h)) (known n)
@@ -182,11 +185,12 @@ module _ (b : Board) (g place before next : ℕ) (h n : Hand) (can : CanSearch b
       ((λ _. tt), only_own h.number m.acts.0 (others_only b h n d can.call.of m)))
       (subst (λ (t : Execution). look (rows g t) key ≡ None) (sym whole) gap)))
 
-  pub may_insert_row : MayInsertRow (opening_of b) n.number g place before next (known n)
+  pub may_insert_row : MayInsertRow (opening_of b) n.number g lane place before next (known n)
   may_insert_row =
       let o = opening_of b in
       let d = StorePrivate place Link next in
       let on = search_after b g h n d tt (λ z. z) m can in
+      let key : ℕ = key_in o place (known h) in
       record {
         reading = on.call.reading;
         stands = on.stands;
@@ -195,8 +199,11 @@ module _ (b : Board) (g place before next : ℕ) (h n : Hand) (can : CanSearch b
             (permission_while o h.number g can.call.reading.caller (since b h n d can.call.of m) (known h)
             (valid_after b h n d can.call.of m) (goes_on_inside b h n d can.call.of m tt) may.permission);
         filled = filled_on;
-        behind = subst (λ (x : ℕ). IsLinkBefore o g x before (known n)) (sym key_kept)
-            (before_after b g (key_in o place (known h)) before h n d tt m can may.between.0);
+        in_lane = subst (λ (x : ℕ). HasLane o g lane x (known n)) (sym key_kept)
+            (still_in_lane b h n d can.call.of m g lane key (λ z. let bad = z.3 in cc)
+            (can_walk b g h (searches_follow b g h can)) may.between.0);
+        behind = subst (λ (x : ℕ). IsLinkBefore o g lane x before (known n)) (sym key_kept)
+            (before_after b g lane key before h n d tt m can may.between.1);
         ahead = subst (λ (x : ℕ). IsBehindKey o g x next (known n)) (sym key_kept) ahead_on;
         belongs = subst (λ (x : ℕ). BelongsWhileAbsent o n.number g x (known n)) (sym key_kept)
             belongs_on;
@@ -207,14 +214,14 @@ module _ (b : Board) (g place before next : ℕ) (h n : Hand) (can : CanSearch b
   module _ (k : Hand) where
     -- the change is that of the row as it was filled
     linking : Makes b n
-        (LinkRow g place (inserted_by (opening_of b) n.number place (known n)) before next) k →
-        Makes b n (LinkRow g place (change_of b h place) before next) k
+        (LinkRow g lane place (inserted_by (opening_of b) n.number place (known n)) before next) k →
+        Makes b n (LinkRow g lane place (change_of b h place) before next) k
     linking l =
-        subst (λ (c : Change). Makes b n (LinkRow g place c before next) k) change_kept l
+        subst (λ (c : Change). Makes b n (LinkRow g lane place c before next) k) change_kept l
 
     -- the row was linked
-    module _ (l : Makes b n (LinkRow g place (change_of b h place) before next) k) where
-      pub done_steps : Inserts b h g place before next linked.Done k
+    module _ (l : Makes b n (LinkRow g lane place (change_of b h place) before next) k) where
+      pub done_steps : Inserts b h g lane place before next linked.Done k
       done_steps = (n, (h, refl, m), l)
 
       abbrev moment : Execution
@@ -222,7 +229,7 @@ module _ (b : Board) (g place before next : ℕ) (h n : Hand) (can : CanSearch b
 
       was_absent : value_in_map (opening_of b) (key_of (change_of b h place)) moment ≡ None
       was_absent =
-          let d = LinkRow g place (change_of b h place) before next in
+          let d = LinkRow g lane place (change_of b h place) before next in
           let valid = valid_after b n k d m.of l in
           not_in_map (opening_of b) moment (key_of (change_of b h place)) valid.1
           valid.0.not_live_elsewhere
@@ -231,7 +238,7 @@ module _ (b : Board) (g place before next : ℕ) (h n : Hand) (can : CanSearch b
       adds =
           let o = opening_of b in
           let s = StorePrivate place Link next in
-          let d = LinkRow g place (change_of b h place) before next in (
+          let d = LinkRow g lane place (change_of b h place) before next in (
             moment,
             is_within h k moment
                 (begun_on h (known n) moment (begins b h n s can.call.of m) (up_to b n k d m.of l))
@@ -247,7 +254,7 @@ module _ (b : Board) (g place before next : ℕ) (h n : Hand) (can : CanSearch b
       pub done_tells : InsertTells b h g place next linked.Done k
       done_tells =
           let o = opening_of b in
-          let d = LinkRow g place (change_of b h place) before next in (
+          let d = LinkRow g lane place (change_of b h place) before next in (
             adds,
             ap (role o place) (known_is b n k d m.of l)
                 ∙ choice-same place place (InBuffer g (key_in o place (known h)))
@@ -255,17 +262,17 @@ module _ (b : Board) (g place before next : ℕ) (h n : Hand) (can : CanSearch b
           )
 
     -- the link led elsewhere
-    module _ (found : ℕ) (l : Makes b n (FailLink g before next found) k) where
+    module _ (found : ℕ) (l : Makes b n (FailLink g lane before next found) k) where
       word_kept : (part : Part) → word (opening_of b) (known k) (PlaceWord place part)
           ≡ word (opening_of b) (known n) (PlaceWord place part)
       word_kept part =
-          held_word_is b n k (FailLink g before next found) m.of l place part filled_on.held
+          held_word_is b n k (FailLink g lane before next found) m.of l place part filled_on.held
 
       pub raced_keeps : KeepsRow b h place next k
       raced_keeps =
           record {
             filled = record {
-              held = still_holds b n k (FailLink g before next found) m.of l tt place
+              held = still_holds b n k (FailLink g lane before next found) m.of l tt place
                   filled_on.held;
               new_word = word_kept State ∙ (filled_on.new_word
                   ∙ ap (λ (x : ℕ). state_word (Unlocked (first_version (opening_of b)) false x))
@@ -277,37 +284,37 @@ module _ (b : Board) (g place before next : ℕ) (h n : Hand) (can : CanSearch b
 
       pub raced_log : AddsNoEntry h k
       raced_log =
-          no_entry b n k (FailLink g before next found) m.of l (λ o t log. refl)
+          no_entry b n k (FailLink g lane before next found) m.of l (λ o t log. refl)
           ∙ no_entry b h n (StorePrivate place Link next) can.call.of m (λ o t log. refl)
 
 -- ---- the answers ----
 
-module _ (b : Board) (g place before next : ℕ) (h n k : Hand) (can : CanSearch b g h)
-    (may : CanInsert (opening_of b) h.number g place before next (known h))
+module _ (b : Board) (g lane place before next : ℕ) (h n k : Hand) (can : CanSearch b g h)
+    (may : CanInsert (opening_of b) h.number g lane place before next (known h))
     (m : Makes b h (StorePrivate place Link next) n) where
-  pub answer_steps : (answer : Linked) → Links b n g place before next answer k →
-      Inserts b h g place before next answer k
+  pub answer_steps : (answer : Linked) → Links b n g lane place before next answer k →
+      Inserts b h g lane place before next answer k
   answer_steps linked.Done l =
-      done_steps b g place before next h n can may m k
-      (linking b g place before next h n can may m k l)
+      done_steps b g lane place before next h n can may m k
+      (linking b g lane place before next h n can may m k l)
   answer_steps (linked.Raced row found) l = (l.0, l.2, (n, (h, refl, m), l.1))
 
-  pub answer_tells : (answer : Linked) → Links b n g place before next answer k →
+  pub answer_tells : (answer : Linked) → Links b n g lane place before next answer k →
       InsertTells b h g place next answer k
   answer_tells linked.Done l =
-      done_tells b g place before next h n can may m k
-      (linking b g place before next h n can may m k l)
+      done_tells b g lane place before next h n can may m k
+      (linking b g lane place before next h n can may m k l)
   answer_tells (linked.Raced row found) l = (
-    raced_log b g place before next h n can may m k found l.1,
-    raced_keeps b g place before next h n can may m k found l.1,
+    raced_log b g lane place before next h n can may m k found l.1,
+    raced_keeps b g lane place before next h n can may m k found l.1,
   )
 
-  pub answer_search : (answer : Linked) → Links b n g place before next answer k →
+  pub answer_search : (answer : Linked) → Links b n g lane place before next answer k →
       CanSearch b g k
   answer_search linked.Done l =
       search_after b g n k
-      (LinkRow g place (inserted_by (opening_of b) n.number place (known n)) before next) tt
+      (LinkRow g lane place (inserted_by (opening_of b) n.number place (known n)) before next) tt
       (λ z. z) l (search_after b g h n (StorePrivate place Link next) tt (λ z. z) m can)
   answer_search (linked.Raced row found) l =
-      search_after b g n k (FailLink g before next found) tt (λ z. z) l.1
+      search_after b g n k (FailLink g lane before next found) tt (λ z. z) l.1
       (search_after b g h n (StorePrivate place Link next) tt (λ z. z) m can)

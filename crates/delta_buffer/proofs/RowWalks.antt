@@ -1,25 +1,28 @@
--- What a hand knows as it counts the rows of a buffer, a caller's or the keeper's.
+-- What a hand knows as it counts the rows of a lane, a caller's or the keeper's.
 --
 -- The fact to remember: rows that stood there at the beginning stand there still, and so do those that
 -- were met.
 use Rattle.std.proofs.Common.{◌≡◌, ◌≢◌, ◌⊎◌, inl, inr, ⊎_elim, ℕ, ◌+◌, ◌<◌, ◌≤◌, Some, None}
-use Rattle.std.proofs.Common.{[], ◌∷◌, ◌++◌, length, refl, sym, ap, ◌∙◌, subst, arith}
-use Rattle.map_model.specs.Map.{look}
+use Rattle.std.proofs.Common.{[], ◌∷◌, length, refl, sym, ap, ◌∙◌, arith}
+use mathlib.Core.Logic.{dite}
+use native.Mathlib.Decide.{ℕ_discrete}
+use Rattle.map_model.specs.Map.{Map, look}
+use Rattle.word_layout.specs.declared.headers.HeaderWord.TheVariants.{Cut, Lanes}
 use Rattle.word_layout.specs.declared.places.Part.TheVariants.{Link}
 use Rattle.word_layout.specs.Words.{PlaceWord}
 use Rattle.index_machine.specs.declared.opening.Opening.{Opening}
 use Rattle.index_machine.specs.Conditions.{Valid}
-use Rattle.index_machine.specs.Execution.{Execution, event}
+use Rattle.index_machine.specs.Execution.{Execution}
+use Rattle.index_machine.specs.Lanes.{HasLane, cut, lanes}
 use Rattle.index_machine.specs.RecordConditions.{IsLinkInto}
 use Rattle.index_machine.specs.Rows.{InBuffer, role}
 use Rattle.index_machine.specs.Words.{limits, word}
-use Rattle.index_machine.proofs.Executions.{valid_before}
 use Rattle.index_machine.proofs.OpeningRows.{opening_role-row}
 use Rattle.index_machine.proofs.Placing.{buffer_row, placed}
 use Rattle.machine_buffers.specs.Walks.{IsWalkable}
-use Rattle.machine_buffers.proofs.LaneWalks.{none_unless}
+use Rattle.machine_buffers.proofs.BegunLanes.{cuts_rise}
+use Rattle.machine_buffers.proofs.NextRows.{none_unless}
 use Rattle.machine_buffers.proofs.LinkingRows.{all_listed}
-use Rattle.machine_buffers.proofs.NextRows.{less_or_not}
 use Rattle.machine_buffers.proofs.Walks.{rise, rises}
 use Rattle.machine_places.specs.RowCounts.{all_rows}
 use Rattle.index_machine.proofs.Options.{none_some}
@@ -27,17 +30,19 @@ use Rattle.machine_readers.specs.Buffers.{rows}
 use Rattle.index_rule.specs.declared.board.Board.{Board}
 use Rattle.index_rule.specs.declared.hand.Hand.{Hand}
 use Rattle.index_rule.specs.Hands.{known, opening_of}
-use Rattle.index_rule.proofs.Calls.{HasBegun, begun_on, goes_on}
+use Rattle.index_rule.proofs.Calls.{begun_on, goes_on}
 use Rattle.index_rule.proofs.HeldRows.{rows-length}
-use Rattle.delta_buffer.specs.Following.{CanFollow}
+use Rattle.sorted_group.specs.Standing.{CanFollow}
+use Rattle.delta_buffer.specs.Counting.{AllAmong, CountsLane, LoadsForCount, keys_below}
 use Rattle.delta_buffer.specs.Searching.{IsReachedRow}
 use Rattle.delta_buffer.specs.Walks.{FollowsLink, load_of_link}
 use Rattle.delta_buffer.proofs.KeyCounts.{below_fits, below_kept, below_least, below_most}
-use Rattle.delta_buffer.proofs.KeyCounts.{below_next_least, below_next_most, below_zero, keys_below}
+use Rattle.delta_buffer.proofs.KeyCounts.{below_next_least, below_next_most, below_rise, below_to}
 use Rattle.delta_buffer.proofs.KeyCounts.{keys_end}
-use Rattle.delta_buffer.proofs.Links.{buffer_key, link_is_walk, link_of_row, row_some}
+use Rattle.delta_buffer.proofs.Links.{buffer_key, in_lane_up_to, link_is_count, link_is_load}
+use Rattle.delta_buffer.proofs.Links.{link_of_row, row_some}
 use Rattle.delta_buffer.proofs.CallSteps.{begun_since}
-use Rattle.delta_buffer.proofs.Following.{AllAmong, rows_on}
+use Rattle.delta_buffer.proofs.Following.{in_lane_on, rows_on}
 use Rattle.delta_buffer.proofs.Stepping.{IsOn, arrives, empty_from, sets_out}
 
 -- ---- a table's rows ----
@@ -65,41 +70,68 @@ rows_within o g t valid w =
 
 -- ---- the walk ----
 
--- the link stands behind just the keys below this one: it is the head, or that of the row before
-abbrev StandsBehind : Opening → ℕ → ℕ → ℕ → Execution → Type 0
-StandsBehind o g before low t =
-    ((before ≡ 0) × (low ≡ 0)) ⊎ ((j : ℕ) × (role o before t ≡ InBuffer g j) × (low ≡ j + 1))
+-- the link stands behind just the lane's keys below this one: it is the lane's head, or that of the row
+-- before
+abbrev StandsBehind : Opening → ℕ → ℕ → ℕ → ℕ → Execution → Type 0
+StandsBehind o g lane before low t =
+    ((before ≡ 0) × (low ≡ cut o g lane t))
+    ⊎ ((j : ℕ) × (role o before t ≡ InBuffer g j) × HasLane o g lane j t × (low ≡ j + 1))
 
--- the hand has counted the rows behind which it loaded a link
-pub record HasCounted (b : Board) (g next count : ℕ) (h m : Hand) : Type 0 where
+-- the hand has counted the rows behind which it loaded a link, and so many before the lane
+pub record HasCounted (b : Board) (g lane first next count : ℕ) (h m : Hand) : Type 0 where
   pub before : ℕ
   pub low : ℕ
-  pub on : IsOn b g low before next h m
-  pub behind : StandsBehind (opening_of b) g before low (known m)
+  pub on : IsOn b g lane low before next h m
+  pub loads : LoadsForCount b g h m
+  pub behind : StandsBehind (opening_of b) g lane before low (known m)
   pub kept : AllAmong (rows g (known h)) (rows g (known m))
-  pub least : keys_below low (rows g (known h)) ≤ count
+  pub least : (u : Map) → AllAmong u (rows g (known h)) →
+      keys_below (cut (opening_of b) g lane (known h)) u ≤ first → keys_below low u ≤ count
   pub most : count ≤ keys_below low (rows g (known m))
 
 -- it begins with the head
-pub counts_none : (b : Board) (g next : ℕ) (h k : Hand) → CanFollow b g h →
-    FollowsLink b h g 0 next k → HasCounted b g next 0 h k
-counts_none b g next h k can follows =
+pub counts_none : (b : Board) (g lane first next : ℕ) (h k : Hand) → CanFollow b g h →
+    lane < lanes (opening_of b) g (known h) →
+    first ≤ keys_below (cut (opening_of b) g lane (known h)) (rows g (known h)) →
+    FollowsLink b h g lane 0 next k → HasCounted b g lane first next first h k
+counts_none b g lane first next h k can is_lane le follows =
+    let o = opening_of b in
+    let d = load_of_link g lane 0 next in
+    let low : ℕ = cut o g lane (known h) in
+    let on = sets_out b g lane low next h k can is_lane follows in
+    let kept = rows_on b g h k d (link_is_load g lane 0 next) follows can in
     record {
       before = 0;
-      low = 0;
-      on = sets_out b g 0 next h k can follows;
-      behind = inl (refl, refl);
-      kept = rows_on b g h k (load_of_link g 0 next) (link_is_walk g 0 next) follows can;
-      least = let none = below_zero (rows g (known h)) in omega arith;
-      most = omega arith;
+      low = low;
+      on = on;
+      loads = (d ∷ [], (link_is_count g lane 0 next, tt), (h, refl, follows));
+      behind = inl (refl, sym (on.same (Cut lane)));
+      kept = kept;
+      least = λ u among below. below;
+      most = let grown = below_kept low (rows g (known h)) (rows g (known k)) kept in omega arith;
     }
 
-module _ (b : Board) (g next count : ℕ) (h m : Hand) (has : HasCounted b g next count h m)
-    (some : next ≢ 0) where
+module _ (b : Board) (g lane first next count : ℕ) (h m : Hand)
+    (has : HasCounted b g lane first next count h m) where
+  -- what was counted are keys from the lane's cut on
+  low_from : cut (opening_of b) g lane (known m) ≤ has.low
+  low_from =
+      let o = opening_of b in
+      ⊎_elim (λ (z : (has.before ≡ 0) × (has.low ≡ cut o g lane (known m))).
+      let is = z.1 in omega arith)
+      (λ (z : (j : ℕ) × (role o has.before (known m) ≡ InBuffer g j)
+      × HasLane o g lane j (known m) × (has.low ≡ j + 1)).
+      let from = z.2.from in let is = z.3 in omega arith)
+      has.behind
+
+module _ (b : Board) (g lane first next count : ℕ) (h m : Hand)
+    (has : HasCounted b g lane first next count h m) (some : next ≢ 0) where
   met : (j : ℕ) × IsReachedRow (opening_of b) m.number g j next (known m)
+      × HasLane (opening_of b) g lane j (known m)
   met =
       ⊎_elim (λ (z : next ≡ 0). absurd (some z))
-      (λ (z : (j : ℕ) × IsReachedRow (opening_of b) m.number g j next (known m)). z) has.on.ahead
+      (λ (z : (j : ℕ) × IsReachedRow (opening_of b) m.number g j next (known m)
+      × HasLane (opening_of b) g lane j (known m)). z) has.on.ahead
 
   there : look (rows g (known m)) met.0 ≡ Some next
   there = all_listed (opening_of b) (known m) has.on.valid g met.0 next met.1.0
@@ -108,26 +140,32 @@ module _ (b : Board) (g next count : ℕ) (h m : Hand) (has : HasCounted b g nex
   ahead : has.low ≤ met.0
   ahead =
       let o = opening_of b in
-      ⊎_elim (λ (z : (has.before ≡ 0) × (has.low ≡ 0)). let first = z.1 in omega arith)
-      (λ (z : (j : ℕ) × (role o has.before (known m) ≡ InBuffer g j) × (has.low ≡ j + 1)).
+      ⊎_elim (λ (z : (has.before ≡ 0) × (has.low ≡ cut o g lane (known m))).
+      let is = z.1 in let from = met.2.from in omega arith)
+      (λ (z : (j : ℕ) × (role o has.before (known m) ≡ InBuffer g j)
+      × HasLane o g lane j (known m) × (has.low ≡ j + 1)).
       let row = row_some o (known m) g has.before z.0 has.on.valid z.1 in
       let leads : word o (known m) (PlaceWord has.before Link) ≡ next =
-      ap (word o (known m)) (sym (link_of_row g has.before row)) ∙ has.on.leads in
+      ap (word o (known m)) (sym (link_of_row g lane has.before row)) ∙ has.on.leads in
       let up = rises o (known m) has.on.valid g has.before next z.0 met.0 has.on.can.walkable
       z.1 leads met.1.0 in
-      let is = z.2 in
+      let is = z.3 in
       omega arith)
       has.behind
 
   -- and no row has a key between
   none_between : (k : ℕ) → has.low ≤ k → k < met.0 → look (rows g (known m)) k ≡ None
   none_between k high lt =
-      empty_from b g has.low has.before next h m has.on k high (inr (met.0, met.1.0, lt))
+      let low = low_from b g lane first next count h m has in
+      empty_from b g lane has.low has.before next h m has.on k high
+      (in_lane_up_to (opening_of b) g lane k met.0 (known m) (omega arith) (omega arith) met.2)
+      (inr (met.0, met.1.0, lt))
 
-  none_at_first : (k : ℕ) → has.low ≤ k → k < met.0 → look (rows g (known h)) k ≡ None
-  none_at_first k high lt =
-      none_unless (look (rows g (known h)) k)
-      (λ q e. none_some (sym (none_between k high lt) ∙ has.kept k q e))
+  none_at_first : (u : Map) → AllAmong u (rows g (known h)) → (k : ℕ) → has.low ≤ k → k < met.0 →
+      look u k ≡ None
+  none_at_first u among k high lt =
+      none_unless (look u k)
+      (λ q e. none_some (sym (none_between k high lt) ∙ has.kept k q (among k q e)))
 
   one_more : count + 1 ≤ keys_below (met.0 + 1) (rows g (known m))
   one_more =
@@ -143,28 +181,39 @@ module _ (b : Board) (g next count : ℕ) (h m : Hand) (has : HasCounted b g nex
       let more = one_more in
       omega arith
 
-  pub leads_into : IsLinkInto (opening_of b) g next (known m)
-  leads_into = inr (met.0, met.1.0)
+  pub leads_into : IsLinkInto (opening_of b) g lane next (known m)
+  leads_into = inr (met.0, met.1.0, met.2)
 
-  pub counts_on : (next2 : ℕ) (k : Hand) → FollowsLink b m g next next2 k →
-      HasCounted b g next2 (count + 1) h k
+  pub counts_on : (next2 : ℕ) (k : Hand) → FollowsLink b m g lane next next2 k →
+      HasCounted b g lane first next2 (count + 1) h k
   counts_on next2 k follows =
-      let on = arrives b g (met.0 + 1) next next2 h m k has.on.can has.on.search has.on.number
+      let d = load_of_link g lane next next2 in
+      let is = link_is_load g lane next next2 in
+      let on = arrives b g lane (met.0 + 1) next next2 h m k has.on.can has.on.search has.on.number
       (begun_since h (known m) has.on.begun) has.on.log
       has.on.walks
       (λ d q. begun_on h (known m) (known k) has.on.begun (goes_on b m k d has.on.can.of q))
-      (inr (met.0, met.1.0, omega arith)) follows in
-      let stay = rows_on b g m k (load_of_link g next next2) (link_is_walk g next next2) follows
-      has.on.can in
+      has.on.same has.on.is_lane (inr (met.0, met.1.0, met.2, omega arith)) follows in
+      let stay = rows_on b g m k d is follows has.on.can in
       record {
         before = next;
         low = met.0 + 1;
         on = on;
-        behind = inr (met.0, on.can.walkable.standing met.0 next (stay met.0 next there), refl);
+        loads = (
+          d ∷ has.loads.0,
+          (link_is_count g lane next next2, has.loads.1),
+          (m, has.loads.2, follows),
+        );
+        behind = inr (
+          met.0,
+          on.can.walkable.standing met.0 next (stay met.0 next there),
+          in_lane_on b g m k d is follows has.on.can lane met.0 met.2,
+          refl,
+        );
         kept = λ i q e. stay i q (has.kept i q e);
-        least =
-            let more = below_next_most has.low met.0 (rows g (known h)) none_at_first in
-            let before = has.least in
+        least = λ u among below.
+            let more = below_next_most has.low met.0 u (none_at_first u among) in
+            let before = has.least u among below in
             omega arith;
         most =
             let more = one_more in
@@ -172,35 +221,68 @@ module _ (b : Board) (g next count : ℕ) (h m : Hand) (has : HasCounted b g nex
             omega arith;
       }
 
--- ---- the end ----
+-- ---- the end of a lane ----
 
-valid_first : (b : Board) (h m : Hand) → HasBegun h (known m) → Valid (opening_of b) (known m) →
-    Valid (opening_of b) (known h)
-valid_first b h m begun valid =
-    let o = opening_of b in
-    let first : Execution = event h.number begun.0 ∷ begun.1 ++ known h in
-    valid_before o begun.1 (known h)
-    (valid_before o begun.3.0 first (subst (Valid o) (sym begun.3.1) valid)).1
+module _ (b : Board) (g lane first next count : ℕ) (h m : Hand)
+    (has : HasCounted b g lane first next count h m) (none : next ≡ 0) where
+  -- the keys that are left of the lane
+  left_in_lane : (k end : ℕ) → has.low ≤ k → k < end →
+      (lane + 1 < lanes (opening_of b) g (known h) →
+      end ≤ cut (opening_of b) g (lane + 1) (known h)) →
+      HasLane (opening_of b) g lane k (known m)
+  left_in_lane k end high lt within =
+      let o = opening_of b in
+      let low = low_from b g lane first next count h m has in
+      let is_lane = has.on.is_lane in
+      let many = has.on.same Lanes in
+      let next_cut = has.on.same (Cut (lane + 1)) in
+      record {
+        is_lane = is_lane;
+        from = omega arith;
+        end = dite (ℕ_discrete (lane + 1) (lanes o g (known m)))
+            (λ (z : lane + 1 ≡ lanes o g (known m)). inl z)
+            (λ (z : lane + 1 ≢ lanes o g (known m)).
+            let most = within (omega arith) in inr (omega arith));
+      }
 
-module _ (b : Board) (g next count : ℕ) (h m : Hand) (has : HasCounted b g next count h m)
-    (none : next ≡ 0) where
-  all_counted : (k q : ℕ) → look (rows g (known h)) k ≡ Some q → k < has.low
-  all_counted k q e =
-      ⊎_elim (λ (lt : k < has.low). lt)
-      (λ (le : has.low ≤ k).
-      absurd (none_some (sym (empty_from b g has.low has.before next h m has.on k le (inl none))
-      ∙ has.kept k q e)))
-      (less_or_not k has.low)
+  none_left : (u : Map) (end : ℕ) → AllAmong u (rows g (known h)) →
+      (lane + 1 < lanes (opening_of b) g (known h) →
+      end ≤ cut (opening_of b) g (lane + 1) (known h)) → (k : ℕ) → has.low ≤ k → k < end →
+      look u k ≡ None
+  none_left u end among within k high lt =
+      none_unless (look u k)
+      (λ q e. none_some (sym (empty_from b g lane has.low has.before next h m has.on k high
+      (left_in_lane k end high lt within) (inl none)) ∙ has.kept k q (among k q e)))
 
-  pub at_least : length (rows g (known h)) ≤ count
-  at_least =
-      let rising = rise (opening_of b) (known h) (valid_first b h m has.on.begun has.on.valid) g in
-      let all = below_least has.low (rows g (known h)) rising all_counted in
-      let counted = has.least in
-      omega arith
+  -- what was counted is before the next lane
+  low_to : lane + 1 < lanes (opening_of b) g (known h) →
+      has.low ≤ cut (opening_of b) g (lane + 1) (known h)
+  low_to lt =
+      let o = opening_of b in
+      let many = has.on.same Lanes in
+      let next_cut = has.on.same (Cut (lane + 1)) in
+      ⊎_elim (λ (z : (has.before ≡ 0) × (has.low ≡ cut o g lane (known m))).
+      let is = z.1 in
+      let up = (cuts_rise o (known m) has.on.valid g).rising lane (omega arith) in
+      omega arith)
+      (λ (z : (j : ℕ) × (role o has.before (known m) ≡ InBuffer g j)
+      × HasLane o g lane j (known m) × (has.low ≡ j + 1)).
+      let is = z.3 in
+      ⊎_elim (λ (last : lane + 1 ≡ lanes o g (known m)). absurd (omega arith))
+      (λ (below : z.0 < cut o g (lane + 1) (known m)). omega arith) z.2.end)
+      has.behind
 
-  pub at_most : count ≤ length (rows g (known m))
-  at_most =
-      let all = below_most has.low (rows g (known m)) in
-      let counted = has.most in
-      omega arith
+  pub counted : CountsLane (opening_of b) g lane first count (known h) (known m)
+  counted =
+      record {
+        least = λ u end among below within.
+            let before = has.least u among below in
+            let none_more = below_to has.low end u (none_left u end among within) in
+            omega arith;
+        most = λ lt.
+            let up = below_rise has.low (cut (opening_of b) g (lane + 1) (known h))
+            (rows g (known m)) (low_to lt) in
+            let before = has.most in
+            omega arith;
+        all = let before = has.most in let all = below_most has.low (rows g (known m)) in omega arith;
+      }

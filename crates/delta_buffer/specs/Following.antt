@@ -1,14 +1,13 @@
--- What following the links of a buffer needs, of a caller or of the keeper.
+-- Which buffers the keeper can follow.
 --
--- The fact to remember: only the keeper takes a row out of a buffer or refills its head, so a buffer
--- that the keeper knows to be whole stays so until it does this itself.
+-- The fact to remember: only the keeper takes a row out of a buffer or refills a word of its lanes, so a
+-- buffer that the keeper knows to be whole stays so until it does this itself.
 use Rattle.std.specs.Prelude.{◌≡◌, ◌⊎◌, ℕ, ◌<◌, Some, [], ◌∷◌, ◌++◌}
 use Rattle.index_machine.specs.declared.opening.Opening.{Opening}
 use Rattle.index_machine.specs.Conditions.{Valid}
 use Rattle.index_machine.specs.Execution.{Execution}
 use Rattle.index_machine.specs.KeyRanges.{predecessor}
 use Rattle.index_machine.specs.Permissions.{IsReplaced}
-use Rattle.index_machine.specs.RecordConditions.{MayWalk}
 use Rattle.index_machine.specs.Sections.{IsKeeper}
 use Rattle.index_machine.specs.Words.{limits}
 use Rattle.machine_buffers.specs.Groups.{IsOfAKey}
@@ -16,14 +15,7 @@ use Rattle.machine_buffers.specs.Walks.{IsWalkable, TakesApart}
 use Rattle.index_rule.specs.declared.board.Board.{Board}
 use Rattle.index_rule.specs.declared.hand.Hand.{Hand}
 use Rattle.index_rule.specs.Hands.{IsHandOf, known, opening_of}
-
--- the hand can follow the buffer's links and meets all its rows: it is a caller's that stands in the
--- group, or the keeper's, and a walk meets all rows of the buffer
-pub record CanFollow (b : Board) (group : ℕ) (h : Hand) : Type 0 where
-  pub of : IsHandOf b h
-  pub may_walk : MayWalk (opening_of b) h.number group (known h)
-  pub walkable : IsWalkable (opening_of b) group (known h)
-  pub in_table : group < (limits (opening_of b)).groups
+use Rattle.sorted_group.specs.Standing.{CanFollow}
 
 -- the group answers for a key or is to; or it did before, and the groups of that rebuild are not all
 -- gone
@@ -32,7 +24,7 @@ HasWholeBuffer o group t =
     IsOfAKey o group t
     ⊎ (((k : ℕ) × (predecessor o k t ≡ Some group)) × (IsReplaced o group t → ⊥))
 
--- by these newer events the hand itself takes no row out of the buffer and refills no head
+-- by these newer events the hand itself takes no row out of the buffer and refills no word of its lanes
 abbrev pub KeepsWhole : Opening → ℕ → ℕ → Execution → Execution → Type 0
 KeepsWhole o hand group [] t = Unit {0}
 KeepsWhole o hand group (e ∷ newer) t =

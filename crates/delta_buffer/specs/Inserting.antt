@@ -1,4 +1,4 @@
--- What linking a row into a buffer needs and does.
+-- What linking a row into a lane of a buffer needs and does.
 use Rattle.std.specs.Prelude.{◌≡◌, ◌≢◌, ℕ, None, [], ◌∷◌, ◌++◌}
 use Rattle.map_model.specs.declared.entries.Change.{Change}
 use Rattle.map_model.specs.Map.{look}
@@ -46,12 +46,12 @@ BelongsUntilLinked o hand group key t =
     look (rows group (newer ++ t)) key ≡ None →
     IsNewKeyFor o key group (newer ++ t)
 
--- the caller's row is filled, its key belongs between the two places, and the caller has an
+-- the caller's row is filled, its key belongs between the two places of the lane, and the caller has an
 -- insert permission
-pub record CanInsert (o : Opening) (hand group place before next : ℕ) (t : Execution)
+pub record CanInsert (o : Opening) (hand group lane place before next : ℕ) (t : Execution)
     : Type 0 where
   pub filled : IsFilled o hand place (word o t (PlaceWord place Link)) t
-  pub between : BelongsBetween o group (key_in o place t) before next t
+  pub between : BelongsBetween o group lane (key_in o place t) before next t
   pub permission : MayInsertInto hand group t
   pub belongs : BelongsUntilLinked o hand group (key_in o place t) t
 
@@ -62,13 +62,13 @@ abbrev pub change_of : Board → Hand → ℕ → Change
 change_of b h place = inserted_by (opening_of b) h.number place (known h)
 
 -- the steps, the newest first: the row's link is stored, and the link behind `before` exchanged once
-abbrev pub Inserts : Board → Hand → ℕ → ℕ → ℕ → ℕ → Linked → Hand → Type 0
-Inserts b h group place before next linked.Done k =
-    MakesAll b h (LinkRow group place (change_of b h place) before next
+abbrev pub Inserts : Board → Hand → ℕ → ℕ → ℕ → ℕ → ℕ → Linked → Hand → Type 0
+Inserts b h group lane place before next linked.Done k =
+    MakesAll b h (LinkRow group lane place (change_of b h place) before next
     ∷ StorePrivate place Link next ∷ []) k
-Inserts b h group place before next (linked.Raced row found) k =
+Inserts b h group lane place before next (linked.Raced row found) k =
     (place_of_private row ≡ place) × (next ≢ found)
-    × MakesAll b h (FailLink group before next found ∷ StorePrivate place Link next ∷ []) k
+    × MakesAll b h (FailLink group lane before next found ∷ StorePrivate place Link next ∷ []) k
 
 -- the caller still has the row, filled as before
 pub record KeepsRow (b : Board) (h : Hand) (place next : ℕ) (k : Hand) : Type 0 where

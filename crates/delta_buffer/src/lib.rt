@@ -1,7 +1,7 @@
-//! The buffer of a group: a sorted list of rows, which callers walk and link new rows into.
+//! The buffer of a group: sorted lists of rows, its lanes, which callers walk and link new rows into.
 //!
-//! A walk meets the rows by rising keys. It ends at the row of the key, at the first one with a greater
-//! key, or at the end, so what the last link said of the key held when it was loaded.
+//! A walk meets the rows of a lane by rising keys. It ends at the row of the key, at the first one with a
+//! greater key, or at the end, so what the last link said of the key held when it was loaded.
 #![tactic(auto)]
 
 mod answers;

@@ -150,7 +150,7 @@ without_lock-copied r Moved is = is
 copied_before : (o : Opening) (t : Execution) (hand : ℕ) (d : Action) → IsCaller o hand →
     Allowed o t hand d → (first place : ℕ) (f : Form) →
     IsCopied (form_after first place hand d f) → IsCopied f
-copied_before o t hand (LinkRow g q d before next) caller may first place f is =
+copied_before o t hand (LinkRow g lane q d before next) caller may first place f is =
     either_copied (q == place) _ f (λ z. absurd z) is
 copied_before o t hand (Lock q x) caller may first place f is =
     either_copied (q == place) (with_lock hand f) f (with_lock-copied hand f) is

@@ -62,11 +62,12 @@ word_left o hand w (e ∷ newer) t all leaves =
     ∙ word_left o hand w newer t all.1 leaves.1)
 
 -- the load of a link finds the word there
-link_found : (o : Opening) (t : Execution) (hand group before next : ℕ) →
-    Allowed o t hand (load_of_link group before next) →
-    word o (event hand (load_of_link group before next) ∷ t) (link_behind group before) ≡ next
-link_found o t hand group zero next may = may.found_word
-link_found o t hand group (suc n) next may = may.found_word
+link_found : (o : Opening) (t : Execution) (hand group lane before next : ℕ) →
+    Allowed o t hand (load_of_link group lane before next) →
+    word o (event hand (load_of_link group lane before next) ∷ t) (link_behind group lane before)
+    ≡ next
+link_found o t hand group lane zero next may = may.found_word
+link_found o t hand group lane (suc n) next may = may.found_word
 
 -- ---- a call that nobody disturbs ----
 
@@ -127,11 +128,11 @@ module _ (b : Board) (h k : Hand) (begun : Execution) (from : Continues begun (k
 
   pub no_lost_link : (address expected found : ℕ) → LosesLink b h address expected found k → ⊥
   no_lost_link address expected found loses =
-      let w : Word = link_behind loses.group loses.before in
-      let load = load_of_link loses.group loses.before expected in
-      let fail = FailLink loses.group loses.before expected found in
-      let one = link_found (opening_of b) loses.steps.0 h.number loses.group loses.before expected
-      (first_allowed w load fail loses.steps) in
+      let w : Word = link_behind loses.group loses.lane loses.before in
+      let load = load_of_link loses.group loses.lane loses.before expected in
+      let fail = FailLink loses.group loses.lane loses.before expected found in
+      let one = link_found (opening_of b) loses.steps.0 h.number loses.group loses.lane loses.before
+      expected (first_allowed w load fail loses.steps) in
       let two = other_allowed w load fail loses.steps in
       loses.differ
       (sym one ∙ (sym (same_word_found w load fail loses.steps) ∙ two.found_word))

@@ -46,8 +46,8 @@ counted_step : (o : Opening) (t : Execution) (by : ℕ) (action : Action) → Al
     IsCounted o t → IsCounted o (event by action ∷ t)
 counted_step o t by (Enter n) may old = crossed o t by n may.1 old
 counted_step o t by (Leave n) may old = crossed o t by n may.1 old
-counted_step o t by (LinkRow group place change zero next) may old = old
-counted_step o t by (LinkRow group place change (suc n) next) may old = old
+counted_step o t by (LinkRow group lane place change zero next) may old = old
+counted_step o t by (LinkRow group lane place change (suc n) next) may old = old
 counted_step o t by (Install (NextOf left) first low high) may old = old
 counted_step o t by (Install (FirstSlot side) first low high) may old = old
 counted_step o t by action may old = old

@@ -122,7 +122,7 @@ copied_away-holder hand Moved e = e
 holder_before : (first place b : ℕ) (d : Action) (f : Form) (hand : ℕ) →
     (TakesLock d → b ≢ hand) → holder (form_after first place b d f) ≡ Some hand →
     holder f ≡ Some hand
-holder_before first place b (LinkRow g q d before next) f hand other e =
+holder_before first place b (LinkRow g lane q d before next) f hand other e =
     either_form (q == place) _ f hand (no_holder hand) e
 holder_before first place b (Lock q x) f hand other e =
     either_form (q == place) (with_lock b f) f hand (with_lock-holder b hand f (other tt)) e

@@ -120,10 +120,10 @@ linked_step o t by (PopFree popped next) valid may chain =
     linked_pop o t by popped next may chain
 linked_step o t by (PushFree pushed head) valid may chain =
     linked_push o t by pushed head may chain
-linked_step o t by (LinkRow group q change zero next) valid may chain =
-    links_same o t by (LinkRow group q change zero next) valid may refl refl chain
-linked_step o t by (LinkRow group q change (suc n) next) valid may chain =
-    links_same o t by (LinkRow group q change (suc n) next) valid may refl refl chain
+linked_step o t by (LinkRow group lane q change zero next) valid may chain =
+    links_same o t by (LinkRow group lane q change zero next) valid may refl refl chain
+linked_step o t by (LinkRow group lane q change (suc n) next) valid may chain =
+    links_same o t by (LinkRow group lane q change (suc n) next) valid may refl refl chain
 linked_step o t by (Install (NextOf left) first low high) valid may chain =
     links_same o t by (Install (NextOf left) first low high) valid may refl refl chain
 linked_step o t by (Install (FirstSlot side) first low high) valid may chain =
@@ -201,8 +201,8 @@ links_step o t by (StoreValue q value) valid may place row old =
 links_step o t by (Unlock q removed change stored) valid may place row old =
     subst (FitsPart (limits o) Link)
     (sym (other_part (q == place) stored (word o t (PlaceWord place Link)))) old
-links_step o t by (LinkRow group q change zero next) valid may place row old = old
-links_step o t by (LinkRow group q change (suc n) next) valid may place row old =
+links_step o t by (LinkRow group lane q change zero next) valid may place row old = old
+links_step o t by (LinkRow group lane q change (suc n) next) valid may place row old =
     fits_if o ((suc n == place) && true) q (word o t (PlaceWord place Link))
     (inr ((placed o t valid).held by q may.mine).0) old
 links_step o t by (StoreArray group q part value) valid may place row old =

@@ -123,7 +123,7 @@ free_role o t by (PopFree popped next) valid place row other free =
     sym (choice-other popped place (HeldBy by) (role o place t) differ) ∙ free)
 free_role o t by (PushFree pushed head) valid place row other free =
     sym (choice-other pushed place Unused (role o place t) other) ∙ free
-free_role o t by (LinkRow group q change before next) valid place row other free =
+free_role o t by (LinkRow group lane q change before next) valid place row other free =
     free_set q place (InBuffer group (key_of change)) (role o place t) (λ e. let bad = e in cc) free
 free_role o t by (Retire q next) valid place row other free =
     free_set q place (HeldBy by) (role o place t) (λ e. let bad = e in cc) free

@@ -367,8 +367,8 @@ placed_step : (o : Opening) (t : Execution) (by : ℕ) (action : Action) → All
     Sited o t → RowsKept o (event by action ∷ t)
 placed_step o t by (PopFree popped next) may old = placed_pop o t by popped next may old.rows
 placed_step o t by (PushFree pushed head) may old = placed_push o t by pushed head may old.rows
-placed_step o t by (LinkRow group q change before next) may old =
-    placed_set o t by (LinkRow group q change before next) q (InBuffer group (key_of change))
+placed_step o t by (LinkRow group lane q change before next) may old =
+    placed_set o t by (LinkRow group lane q change before next) q (InBuffer group (key_of change))
     old.rows refl (λ p. refl)
     (λ h. unused-held (sym (old.rows.free q h).0 ∙ may.mine)) (λ e. let bad = e in cc)
     (λ hand e. buffer_held e)
@@ -407,7 +407,7 @@ buffers_step o t by (PushFree q head) may old place group k e =
     ⊎_elim (λ (z : (q ≡ place) × (Unused ≡ InBuffer group k)). let bad = z.1 in cc)
     (λ (z : (q ≢ place) × (role o place t ≡ InBuffer group k)). old.buffers place group k z.1)
     (set_before q place Unused (role o place t) (InBuffer group k) e)
-buffers_step o t by (LinkRow g q change before next) may old place group k e =
+buffers_step o t by (LinkRow g lane q change before next) may old place group k e =
     ⊎_elim
     (λ (z : (q ≡ place) × (InBuffer g (key_of change) ≡ InBuffer group k)).
     subst (IsRow (limits o)) z.0 (old.rows.held by q may.mine).0)
@@ -436,7 +436,7 @@ arrays_step o t by (PushFree q head) may old place group k e =
     ⊎_elim (λ (z : (q ≡ place) × (Unused ≡ InArray group k)). let bad = z.1 in cc)
     (λ (z : (q ≢ place) × (role o place t ≡ InArray group k)). old.arrays place group k z.1)
     (set_before q place Unused (role o place t) (InArray group k) e)
-arrays_step o t by (LinkRow g q change before next) may old place group k e =
+arrays_step o t by (LinkRow g lane q change before next) may old place group k e =
     ⊎_elim
     (λ (z : (q ≡ place) × (InBuffer g (key_of change) ≡ InArray group k)). let bad = z.1 in cc)
     (λ (z : (q ≢ place) × (role o place t ≡ InArray group k)). old.arrays place group k z.1)
@@ -512,7 +512,7 @@ holds_step o t by (PopFree popped next) valid may hand place differ mine =
 holds_step o t by (PushFree pushed head) valid may hand place differ mine =
     let apart : pushed ≢ place = hands_apart o t by pushed hand place may.held mine differ in
     role_not_pushed o by pushed head t place apart ∙ mine
-holds_step o t by (LinkRow group q change before next) valid may hand place differ mine =
+holds_step o t by (LinkRow group lane q change before next) valid may hand place differ mine =
     choice-other q place (InBuffer group (key_of change)) (role o place t)
     (hands_apart o t by q hand place may.mine mine differ) ∙ mine
 holds_step o t by (Retire q next) valid may hand place differ mine =
@@ -543,7 +543,7 @@ held_before o by (PopFree popped next) t hand place differ mine =
     (held_before_pop o by popped next t hand place mine)
 held_before o by (PushFree pushed head) t hand place differ mine =
     held_before_push o by pushed head t hand place mine
-held_before o by (LinkRow group q change before next) t hand place differ mine =
+held_before o by (LinkRow group lane q change before next) t hand place differ mine =
     ⊎_elim (λ (z : (q ≡ place) × (InBuffer group (key_of change) ≡ HeldBy hand)). buffer_held z.1)
     (λ (z : (q ≢ place) × (role o place t ≡ HeldBy hand)). z.1)
     (set_before q place (InBuffer group (key_of change)) (role o place t) (HeldBy hand) mine)
@@ -573,7 +573,7 @@ holds_none_on o hand (e ∷ newer) t valid without none place mine =
 abbrev pub KeepsRoles : Action → Type 0
 KeepsRoles (PopFree place next) = ⊥
 KeepsRoles (PushFree place head) = ⊥
-KeepsRoles (LinkRow group place change before next) = ⊥
+KeepsRoles (LinkRow group lane place change before next) = ⊥
 KeepsRoles (Retire place next) = ⊥
 KeepsRoles (StoreRedirect group place k to) = ⊥
 KeepsRoles (NewGroup group low high first) = ⊥
@@ -583,7 +583,7 @@ pub role_kept : (o : Opening) (by : ℕ) (action : Action) (t : Execution) → K
     (place : ℕ) → role o place (event by action ∷ t) ≡ role o place t
 role_kept o by (PopFree popped next) t keeps place = absurd keeps
 role_kept o by (PushFree pushed head) t keeps place = absurd keeps
-role_kept o by (LinkRow group q change before next) t keeps place = absurd keeps
+role_kept o by (LinkRow group lane q change before next) t keeps place = absurd keeps
 role_kept o by (Retire q next) t keeps place = absurd keeps
 role_kept o by (StoreRedirect group q k to) t keeps place = absurd keeps
 role_kept o by (NewGroup group low high first) t keeps place = absurd keeps

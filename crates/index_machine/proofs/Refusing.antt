@@ -33,7 +33,7 @@ pub pushes_wait : PushesWaitForReaders
 pushes_wait o t hand place head may = may.unobserved
 
 pub links_where_none_lives : LinksWhereNoneLives
-links_where_none_lives o t hand group place change before next may = may.not_live_elsewhere
+links_where_none_lives o t hand group lane place change before next may = may.not_live_elsewhere
 
 was_removed : {c v x y d w a b : ℕ} {r : Bool} → Locked c v r x y ≡ Locked d w true a b → r ≡ true
 was_removed e = cc

@@ -175,8 +175,36 @@ all_represent (StoreHeader g header.LineError value) o t by valid old =
       slots = old.slots;
       root_word = old.root_word;
     }
-all_represent (StoreHeader g header.BufferHead value) o t by valid old =
-    let later : Execution = event by (StoreHeader g header.BufferHead value) ∷ t in
+all_represent (StoreHeader g header.Lanes value) o t by valid old =
+    let later : Execution = event by (StoreHeader g header.Lanes value) ∷ t in
+    let may = valid.0 in
+    record {
+      epochs = (counted o later valid).count;
+      free_rows = linked o later valid;
+      keys = old.keys;
+      values = old.values;
+      states = old.states;
+      phases = λ group fresh.
+          other (g == group) value (word o t (Header group header.Phase)) ∙ old.phases group fresh;
+      slots = old.slots;
+      root_word = old.root_word;
+    }
+all_represent (StoreHeader g (header.Head lane) value) o t by valid old =
+    let later : Execution = event by (StoreHeader g (header.Head lane) value) ∷ t in
+    let may = valid.0 in
+    record {
+      epochs = (counted o later valid).count;
+      free_rows = linked o later valid;
+      keys = old.keys;
+      values = old.values;
+      states = old.states;
+      phases = λ group fresh.
+          other (g == group) value (word o t (Header group header.Phase)) ∙ old.phases group fresh;
+      slots = old.slots;
+      root_word = old.root_word;
+    }
+all_represent (StoreHeader g (header.Cut lane) value) o t by valid old =
+    let later : Execution = event by (StoreHeader g (header.Cut lane) value) ∷ t in
     let may = valid.0 in
     record {
       epochs = (counted o later valid).count;
@@ -590,8 +618,8 @@ all_represent (StoreRedirect g q k to) o t by valid old =
       slots = old.slots;
       root_word = old.root_word;
     }
-all_represent (LinkRow g q d zero next) o t by valid old =
-    let later : Execution = event by (LinkRow g q d zero next) ∷ t in
+all_represent (LinkRow g lane q d zero next) o t by valid old =
+    let later : Execution = event by (LinkRow g lane q d zero next) ∷ t in
     let may = valid.0 in
     record {
       epochs = (counted o later valid).count;
@@ -627,8 +655,8 @@ all_represent (LinkRow g q d zero next) o t by valid old =
       slots = old.slots;
       root_word = old.root_word;
     }
-all_represent (LinkRow g q d (suc n) next) o t by valid old =
-    let later : Execution = event by (LinkRow g q d (suc n) next) ∷ t in
+all_represent (LinkRow g lane q d (suc n) next) o t by valid old =
+    let later : Execution = event by (LinkRow g lane q d (suc n) next) ∷ t in
     let may = valid.0 in
     record {
       epochs = (counted o later valid).count;

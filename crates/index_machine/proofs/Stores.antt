@@ -14,6 +14,7 @@ use Rattle.index_machine.specs.declared.events.InstallWord.TheVariants.{NextOf, 
 use Rattle.index_machine.specs.declared.opening.Opening.{Opening}
 use Rattle.index_machine.specs.Execution.{Execution, event}
 use Rattle.index_machine.specs.Words.{limits, word}
+use Rattle.index_machine.specs.Lanes.{HasLane}
 use Rattle.index_machine.specs.Rows.{InArray, InBuffer, role, role_key, Holds}
 use Rattle.index_machine.specs.Places.{IsInGroup}
 use Rattle.index_machine.specs.RecordConditions.{HasKey}
@@ -65,11 +66,11 @@ keyless_words o t by (Unlock q removed change stored) may place row none other p
     rw (ne_eqb q place
     (keyed_apart o t q place (_, may.1.keyed) none))
     refl
-keyless_words o t by (LinkRow group q change zero next) may place row none other part = refl
-keyless_words o t by (LinkRow group q change (suc n) next) may place row none other part =
+keyless_words o t by (LinkRow group lane q change zero next) may place row none other part = refl
+keyless_words o t by (LinkRow group lane q change (suc n) next) may place row none other part =
     rw (ne_eqb (suc n) place
     (⊎_elim (λ (z : suc n ≡ 0). absurd (omega (arith, z)))
-    (λ (z : (k : ℕ) × (role o (suc n) t ≡ InBuffer group k)).
+    (λ (z : (k : ℕ) × (role o (suc n) t ≡ InBuffer group k) × HasLane o group lane k t).
     keyed_apart o t (suc n) place (z.0, ap role_key z.1) none) may.behind))
     refl
 keyless_words o t by (StoreArray group q at value) may place row none other part =

@@ -138,11 +138,12 @@ Allowed o t hand (StoreValue place value) =
 Allowed o t hand (Unlock place removed d stored) =
     IsCaller o hand × MayUnlock o t hand place removed d
     × (stored ≡ state_word (without_lock removed (form o place t)))
-Allowed o t hand (LoadHead group found) = MayLoadHead o hand group found t
+Allowed o t hand (LoadHead group lane found) = MayLoadHead o hand group lane found t
 Allowed o t hand (LoadLink group place found) = MayLoadLink o hand group place found t
-Allowed o t hand (LinkRow group place d before next) = MayLink o t hand group place d before next
-Allowed o t hand (FailLink group before expected found) =
-    MayFailLink o hand group before expected found t
+Allowed o t hand (LinkRow group lane place d before next) =
+    MayLink o t hand group lane place d before next
+Allowed o t hand (FailLink group lane before expected found) =
+    MayFailLink o hand group lane before expected found t
 Allowed o t hand (Retire place next) = MayRetire o t hand place next
 Allowed o t hand (LoadHeader group which found) = MayLoadHeader o hand group which found t
 Allowed o t hand (LoadNext group found) = MayLoadNext o hand group found t

@@ -96,7 +96,7 @@ copied_away f = f
 -- the form of a place after an action of the hand, where it was this before; new records have this
 -- first version
 abbrev pub form_after : ℕ → ℕ → ℕ → Action → Form → Form
-form_after first place hand (LinkRow group q d before next) f =
+form_after first place hand (LinkRow group lane q d before next) f =
     cond (q == place) (Unlocked first false (put_value d)) f
 form_after first place hand (Lock q x) f = cond (q == place) (with_lock hand f) f
 form_after first place hand (StoreValue q y) f = cond (q == place) (with_value y f) f

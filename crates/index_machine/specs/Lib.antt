@@ -2,6 +2,7 @@ pub mod Execution
 pub mod Lists
 pub mod OpeningRows
 pub mod Words
+pub mod Lanes
 pub mod Sections
 pub mod Rows
 pub mod ObservedHeads

@@ -17,7 +17,7 @@ use Rattle.index_machine.specs.Permissions.{IsBufferFor}
 -- the live place of a key after an action, where it was this before
 abbrev pub live_place_after : ℕ → Action → Option ℕ → Option ℕ
 live_place_after k (Unlock q r d w) p = cond (key_of d == k) (cond r None (Some q)) p
-live_place_after k (LinkRow group q d before next) p = cond (key_of d == k) (Some q) p
+live_place_after k (LinkRow group lane q d before next) p = cond (key_of d == k) (Some q) p
 live_place_after k (StoreDirect q from j r w) p = cond (j == k) (cond r p (Some q)) p
 live_place_after k _ p = p
 
@@ -29,7 +29,7 @@ live_place o k (e ∷ t) = live_place_after k e.action (live_place o k t)
 -- the history after an action, where it was this before
 abbrev pub history_after : Action → History → History
 history_after (Unlock q r d w) h = d ∷ h
-history_after (LinkRow group q d before next) h = d ∷ h
+history_after (LinkRow group lane q d before next) h = d ∷ h
 history_after _ h = h
 
 -- the changes of an execution

@@ -1,5 +1,5 @@
 -- The rows that the table is opened with: row i stands at place i of the array of group 0.
-use Rattle.std.specs.Prelude.{ℕ, ◌+◌, false, cond, ◌==◌, Option, Some, None, [], ◌∷◌}
+use Rattle.std.specs.Prelude.{ℕ, ◌+◌, false, cond, ◌==◌, Option, Some, None, List, [], ◌∷◌, map}
 use Rattle.map_model.specs.Map.{Map}
 use Rattle.word_layout.specs.declared.limits.Limits.{Limits}
 use Rattle.word_layout.specs.declared.state.State.TheVariants.{Direct}
@@ -7,6 +7,10 @@ use Rattle.word_layout.specs.Addresses.{array_address}
 use Rattle.word_layout.specs.Layout.{limits_of}
 use Rattle.word_layout.specs.State.{word_of_state}
 use Rattle.index_machine.specs.declared.opening.Opening.{Opening}
+
+-- the keys of rows, in their order
+abbrev pub keys_in : Map → List ℕ
+keys_in rows = map (λ row. row.0) rows
 
 -- ---- which row stands where ----
 

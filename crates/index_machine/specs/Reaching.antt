@@ -87,7 +87,8 @@ reached_after place mine (Enter n) b = cond mine false b
 reached_after place mine (Leave n) b = cond mine false b
 reached_after place mine (LoadState q found) b =
     cond mine (cond (found == word_of_state (state.Redirect place)) true b) b
-reached_after place mine (LoadHead g found) b = cond mine (cond (names_place found place) true b) b
+reached_after place mine (LoadHead g lane found) b =
+    cond mine (cond (names_place found place) true b) b
 reached_after place mine (LoadLink g q found) b =
     cond mine (cond (names_place found place) true b) b
 reached_after place mine _ b = b

@@ -10,6 +10,7 @@ use Rattle.word_layout.specs.declared.headers.HeaderWord.TheVariants as header
 use Rattle.word_layout.specs.declared.places.Part.TheVariants as part
 use Rattle.word_layout.specs.declared.phase.Phase.TheVariants.{Open, Frozen, Opened}
 use Rattle.word_layout.specs.Addresses.{array_address}
+use Rattle.word_layout.specs.Headers.{IsHeaderWord}
 use Rattle.word_layout.specs.Places.{IsArrayPlace}
 use Rattle.word_layout.specs.Root.{word_of_root}
 use Rattle.word_layout.specs.Phase.{word_of_phase}
@@ -19,6 +20,7 @@ use Rattle.index_machine.specs.declared.events.InstallWord.TheVariants.{NextOf, 
 use Rattle.index_machine.specs.declared.opening.Opening.{Opening}
 use Rattle.index_machine.specs.Execution.{Execution}
 use Rattle.index_machine.specs.Words.{limits, word}
+use Rattle.index_machine.specs.Lanes.{HasNewLanes}
 use Rattle.index_machine.specs.Sections.{IsCaller, IsKeeper, IsReading}
 use Rattle.index_machine.specs.Rows.{Unused, InArray, InBuffer, role_key, role}
 use Rattle.index_machine.specs.Forms.{Unlocked, Locked, Copied, Redirect, IsUnlocked}
@@ -83,6 +85,7 @@ pub record MayFillHeader (o : Opening) (t : Execution) (hand group : ℕ) (which
     : Type 0 where
   pub keeper : IsKeeper o hand
   pub exists : group < (limits o).groups
+  pub is_word : IsHeaderWord which
   pub unowned : (k : ℕ) → group_of o k t ≢ group
   pub stage :
       (IsGone o group t × IsSettled o group t × ((k : ℕ) → successor k t ≢ Some group))
@@ -96,9 +99,9 @@ pub record MayBegin (o : Opening) (t : Execution) (hand group low high first : �
   pub ordered : (low ≤ high) × (high ≤ greatest_key)
   pub gone : IsGone o group t
   pub settled : IsSettled o group t
-  -- the words of a new group: it is open, and its buffer is empty
+  -- the words of a new group: it is open, and its lanes are empty and cut within its keys
   pub phase_word : word o t (Header group header.Phase) ≡ word_of_phase Open
-  pub head_word : word o t (Header group header.BufferHead) ≡ 0
+  pub new_lanes : HasNewLanes o group low high t
   pub closed : (b : ℕ) → IsCaller o b → MayInsertInto b group t → ⊥
   pub no_row : (p k : ℕ) → role o p t ≢ InBuffer group k
   pub not_live : (k p j : ℕ) → live_place o k t ≡ Some p → role o p t ≢ InArray group j

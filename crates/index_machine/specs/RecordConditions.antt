@@ -14,6 +14,7 @@ use Rattle.word_layout.specs.Words.{Header, PlaceWord}
 use Rattle.index_machine.specs.declared.opening.Opening.{Opening}
 use Rattle.index_machine.specs.Execution.{Execution}
 use Rattle.index_machine.specs.Words.{word, link_behind}
+use Rattle.index_machine.specs.Lanes.{HasLane, lanes}
 use Rattle.index_machine.specs.Sections.{IsCaller, IsKeeper, IsReading}
 use Rattle.index_machine.specs.Rows.{HeldBy, InArray, InBuffer, role_key, role}
 use Rattle.index_machine.specs.Forms.{Unlocked, Locked, Redirect, IsLockedBy, state_word}
@@ -120,32 +121,40 @@ pub record MayUnlock (o : Opening) (t : Execution) (hand place : ℕ) (removed :
 
 -- ---- buffers ----
 
--- a link of the group's buffer: no place, or a row of the buffer
-abbrev pub IsLinkInto : Opening → ℕ → ℕ → Execution → Type 0
-IsLinkInto o group found t =
-    (found ≡ 0) ⊎ ((k : ℕ) × (role o found t ≡ InBuffer group k))
+-- a link of the lane: no place, or a row of the group's buffer whose key is in the lane
+abbrev pub IsLinkInto : Opening → ℕ → ℕ → ℕ → Execution → Type 0
+IsLinkInto o group lane found t =
+    (found ≡ 0) ⊎ ((k : ℕ) × (role o found t ≡ InBuffer group k) × HasLane o group lane k t)
 
 -- the caller stands in the group, or the hand is the keeper's
 abbrev pub MayWalk : Opening → ℕ → ℕ → Execution → Type 0
 MayWalk o hand group t =
     (IsReading o hand t × (stands_in hand group t ≡ true)) ⊎ IsKeeper o hand
 
--- the hand may load this buffer head
-pub record MayLoadHead (o : Opening) (hand group found : ℕ) (t : Execution) : Type 0 where
+-- the hand may load this head of a lane
+pub record MayLoadHead (o : Opening) (hand group lane found : ℕ) (t : Execution) : Type 0 where
   pub allowed : MayWalk o hand group t
-  pub found_word : word o t (Header group header.BufferHead) ≡ found
-  pub says : IsCaller o hand → IsLinkInto o group found t
+  pub is_lane : lane < lanes o group t
+  pub found_word : word o t (Header group (header.Head lane)) ≡ found
+  pub says : IsCaller o hand → IsLinkInto o group lane found t
+
+-- the place is a row of the group's buffer, and this link leads on in the lane of its key
+pub record LeadsOn (o : Opening) (group place found : ℕ) (t : Execution) : Type 0 where
+  pub lane : ℕ
+  pub key : ℕ
+  pub row : role o place t ≡ InBuffer group key
+  pub in_lane : HasLane o group lane key t
+  pub link : IsLinkInto o group lane found t
 
 -- the hand may load this link of a row of the buffer
 pub record MayLoadLink (o : Opening) (hand group place found : ℕ) (t : Execution)
     : Type 0 where
   pub allowed : MayWalk o hand group t
   pub found_word : word o t (PlaceWord place part.Link) ≡ found
-  pub row : IsCaller o hand → (k : ℕ) × (role o place t ≡ InBuffer group k)
-  pub says : IsCaller o hand → IsLinkInto o group found t
+  pub says : IsCaller o hand → LeadsOn o group place found t
 
--- the caller may link its row, filled with a new record, into the group's buffer
-pub record MayLink (o : Opening) (t : Execution) (hand group place : ℕ) (d : Change)
+-- the caller may link its row, filled with a new record, into the lane of its key
+pub record MayLink (o : Opening) (t : Execution) (hand group lane place : ℕ) (d : Change)
     (before next : ℕ) : Type 0 where
   pub caller : IsCaller o hand
   pub value : ℕ
@@ -155,23 +164,25 @@ pub record MayLink (o : Opening) (t : Execution) (hand group place : ℕ) (d : C
   pub new_word : word o t (PlaceWord place part.State)
       ≡ state_word (Unlocked (first_version o) false value)
   pub link_word : word o t (PlaceWord place part.Link) ≡ next
-  pub behind : IsLinkInto o group before t
-  pub expected : word o t (link_behind group before) ≡ next
+  pub in_lane : HasLane o group lane (key_of d) t
+  pub behind : IsLinkInto o group lane before t
+  pub expected : word o t (link_behind group lane before) ≡ next
   pub makes : IsChangeTo hand false false value d
   pub permission : MayInsertInto hand group t
   pub belongs : IsBufferFor o (key_of d) group t
   pub not_live_elsewhere : live_place o (key_of d) t ≡ None
   pub alone : (other : ℕ) → role o other t ≢ InBuffer group (key_of d)
-  -- the buffer's keys still rise
+  -- the lane's keys still rise
   pub behind_smaller : (k : ℕ) → role o before t ≡ InBuffer group k → k < key_of d
-  pub ahead : IsLinkInto o group next t
+  pub ahead : IsLinkInto o group lane next t
   pub ahead_greater : (k : ℕ) → role o next t ≡ InBuffer group k → key_of d < k
 
 -- the exchange of a link found another one
-pub record MayFailLink (o : Opening) (hand group before expected found : ℕ) (t : Execution)
+pub record MayFailLink (o : Opening) (hand group lane before expected found : ℕ) (t : Execution)
     : Type 0 where
   pub reading : IsReading o hand t
-  pub found_word : word o t (link_behind group before) ≡ found
+  pub is_lane : lane < lanes o group t
+  pub found_word : word o t (link_behind group lane before) ≡ found
   pub differs : expected ≢ found
 
 -- the keeper may take a row out of an old buffer: nothing leads there any more

@@ -80,8 +80,8 @@ PushesWaitForReaders =
 -- a row is linked only where the key has no live place
 abbrev pub LinksWhereNoneLives : Type 0
 LinksWhereNoneLives =
-    (o : Opening) (t : Execution) (hand group place : ℕ) (change : Change) (before next : ℕ) →
-    Allowed o t hand (LinkRow group place change before next) →
+    (o : Opening) (t : Execution) (hand group lane place : ℕ) (change : Change) (before next : ℕ) →
+    Allowed o t hand (LinkRow group lane place change before next) →
     live_place o (key_of change) t ≡ None
 
 -- a removed place comes to life again in a buffer alone

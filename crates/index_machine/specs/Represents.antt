@@ -1,8 +1,8 @@
--- When the words stand for the state: a fact for each kind of word.
+-- When the words stand for the state: a fact for each kind of word but those of buffers and of the chain.
 --
 -- A hand learns the state from the words that it loads, so each of its conditions is shown from
--- these facts. The lists of the buffers and the chain of the groups have their own laws; lanes of a
--- buffer, and values of two words, change `values` and add a fact for the heads.
+-- these facts. The lanes of the buffers, their lists and the chain of the groups have their own laws; values
+-- of two words change `values`.
 use Rattle.std.specs.Prelude.{◌≡◌, ℕ, ◌%◌, ◌^◌, Bool, true, false, cond, ◌==◌, Some, []}
 use Rattle.std.specs.Prelude.{◌∷◌}
 use Rattle.word_layout.specs.declared.headers.HeaderWord.TheVariants as header

@@ -50,7 +50,7 @@ opening_role o place = role_of_row (opening_row o place)
 abbrev pub role_after : ℕ → ℕ → Action → Role → Role
 role_after place hand (PopFree popped next) r = cond (popped == place) (HeldBy hand) r
 role_after place hand (PushFree pushed head) r = cond (pushed == place) Unused r
-role_after place hand (LinkRow group linked change before next) r =
+role_after place hand (LinkRow group lane linked change before next) r =
     cond (linked == place) (InBuffer group (key_of change)) r
 role_after place hand (Retire retired next) r = cond (retired == place) (HeldBy hand) r
 role_after place hand (StoreRedirect group new k to) r = cond (new == place) (InArray group k) r

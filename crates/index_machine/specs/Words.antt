@@ -1,7 +1,11 @@
 -- The words that an execution leaves.
 --
 -- The fact to remember: they are the opening words with the stores of the events made in order.
-use Rattle.std.specs.Prelude.{ℕ, zero, suc, ◌+◌, cond, ◌==◌, Option, Some, None, [], ◌∷◌, length}
+use Rattle.std.specs.Prelude.{ℕ, zero, suc, ◌+◌, cond, ◌==◌, nat_lt, Option, Some, None, List, []}
+use Rattle.std.specs.Prelude.{◌∷◌, length}
+use Rattle.line_window.specs.Line.{error_of}
+use Rattle.rebuild_plan.specs.Plan.{lane_count}
+use Rattle.rebuild_plan.specs.Keys.{cut_of}
 use Rattle.word_layout.specs.declared.limits.Limits.{Limits}
 use Rattle.word_layout.specs.declared.places.Part.TheVariants.{Key, Value, State, Link}
 use Rattle.word_layout.specs.declared.headers.HeaderWord.TheVariants as header
@@ -34,6 +38,7 @@ use Rattle.index_machine.specs.declared.events.InstallWord.TheVariants.{NextOf, 
 use Rattle.index_machine.specs.declared.opening.Opening.{Opening}
 use Rattle.index_machine.specs.Execution.{Execution}
 use Rattle.index_machine.specs.OpeningRows.{opening_row, key_word, value_word, row_state_word}
+use Rattle.index_machine.specs.OpeningRows.{keys_in}
 
 -- the limits of the table
 abbrev pub limits : Opening → Limits
@@ -50,10 +55,10 @@ pub record Store : Type 0 where
 abbrev pub store : Word → ℕ → Store
 store w n = record { word = w; value = n }
 
--- the link word behind a row of a group's buffer, or the head where there is no row before
-abbrev pub link_behind : ℕ → ℕ → Word
-link_behind group zero = Header group header.BufferHead
-link_behind group (suc n) = PlaceWord (suc n) Link
+-- the link word behind a row of a lane, or the lane's head where there is no row before
+abbrev pub link_behind : ℕ → ℕ → ℕ → Word
+link_behind group lane zero = Header group (header.Head lane)
+link_behind group lane (suc n) = PlaceWord (suc n) Link
 
 -- the store that takes new groups into the chain
 abbrev pub install_store : InstallWord → ℕ → Store
@@ -70,8 +75,8 @@ store_of hand (PushFree place head) = Some (store FreeHead place)
 store_of hand (Lock place expected) = Some (store (PlaceWord place State) (expected + 4))
 store_of hand (StoreValue place value) = Some (store (PlaceWord place Value) value)
 store_of hand (Unlock place removed change word) = Some (store (PlaceWord place State) word)
-store_of hand (LinkRow group place change before next) =
-    Some (store (link_behind group before) place)
+store_of hand (LinkRow group lane place change before next) =
+    Some (store (link_behind group lane before) place)
 store_of hand (Freeze group) = Some (store (Header group header.Phase) (word_of_phase Frozen))
 store_of hand (Thaw group) = Some (store (Header group header.Phase) (word_of_phase Open))
 store_of hand (StoreHeader group part value) = Some (store (Header group part) value)
@@ -99,9 +104,13 @@ stored (Some s) w n = cond (same_word s.word w) s.value n
 
 -- ---- the words ----
 
+-- the cut of a lane of group 0 as the table is opened, or 0 where there is no such lane
+abbrev pub opening_cut : List ℕ → ℕ → ℕ
+opening_cut keys lane = cond (nat_lt lane (lane_count (length keys))) (cut_of 0 keys lane) 0
+
 -- a word of the table as it is opened: all record rows are on the free stack, row 0 first, every
 -- caller is outside, and the root names side 0, on which one slot is in use; it has the pivot 0 and
--- names group 0, whose array has the opening's rows
+-- names group 0, whose array has the opening's rows, and its buffer the lanes that the plan cuts for them
 abbrev pub opening_word : Opening → Word → ℕ
 opening_word o FreeHead = row_address (limits o) 0
 opening_word o Root = word_of_root 1 0
@@ -109,6 +118,11 @@ opening_word o (Epoch caller) = 0
 opening_word o (SlotPivot side i) = 0
 opening_word o (SlotGroup side i) = 0
 opening_word o (Header group header.Size) = cond (group == 0) (length o.rows) 0
+opening_word o (Header group header.LineError) = cond (group == 0) (error_of (keys_in o.rows)) 0
+opening_word o (Header group header.Lanes) =
+    cond (group == 0) (lane_count (length (keys_in o.rows))) 0
+opening_word o (Header group (header.Cut lane)) =
+    cond (group == 0) (opening_cut (keys_in o.rows) lane) 0
 opening_word o (Header group _) = 0
 opening_word o (PlaceWord place Key) = key_word (opening_row o place)
 opening_word o (PlaceWord place Value) = value_word (opening_row o place)

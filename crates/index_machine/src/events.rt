@@ -1,7 +1,7 @@
 //! The events of an execution. No value of these types is made: contracts alone speak of them.
 //!
-//! Every kind of step has a variant here. Lanes of a buffer, values of two words and several
-//! keepers change fields of these variants and their conditions, and add none.
+//! Every kind of step has a variant here. Values of two words and several keepers change fields of
+//! these variants and their conditions, and add none.
 use map_model::Change;
 use word_layout::{HeaderWord, Part};
 
@@ -104,9 +104,10 @@ pub enum Action {
         change: Change,
         word: u64,
     },
-    /// The buffer head of a group was loaded.
+    /// The head of a lane of a group's buffer was loaded.
     LoadHead {
         group: u64,
+        lane: u64,
         found: u64,
     },
     /// The link of a row in the buffer of a group was loaded.
@@ -115,10 +116,11 @@ pub enum Action {
         place: u64,
         found: u64,
     },
-    /// A link of the group's buffer, that of the row before or of the head where there is none, was
-    /// exchanged for the filled row: the change takes effect.
+    /// A link of a lane of the group's buffer, that of the row before or the head where there is none,
+    /// was exchanged for the filled row: the change takes effect.
     LinkRow {
         group: u64,
+        lane: u64,
         place: u64,
         change: Change,
         before: u64,
@@ -127,6 +129,7 @@ pub enum Action {
     /// An exchange that was to link a row found another link.
     FailLink {
         group: u64,
+        lane: u64,
         before: u64,
         expected: u64,
         found: u64,
@@ -136,7 +139,8 @@ pub enum Action {
         place: u64,
         next: u64,
     },
-    /// A word of a group's header was loaded: the pivot, the size or the error of the line.
+    /// A word of a group's header was loaded: the pivot, the size, the error of the line, the number
+    /// of lanes or the cut of one.
     LoadHeader {
         group: u64,
         part: HeaderWord,

@@ -8,35 +8,40 @@ use prog.Atomic.{either}
 use Rattle.std.proofs.Math.Logic.{∥∥₁_elim}
 use Rattle.std.proofs.Props.{props}
 use Rattle.atomic_table.specs.Table.{Me, Allows}
+use Rattle.word_layout.specs.declared.headers.HeaderWord.{HeaderWord}
 use Rattle.word_layout.specs.declared.headers.HeaderWord.TheVariants as header
+use Rattle.word_layout.specs.Headers.{IsHeaderWord, header_words, most_lanes, number_of}
 use Rattle.word_layout.specs.declared.places.Part.TheVariants as part
 use Rattle.word_layout.specs.Places.{IsPlace, IsRow}
-use Rattle.word_layout.specs.Words.{Header, IsWord, PlaceWord, Word, address_of}
+use Rattle.word_layout.specs.Words.{Header, IsWord, PlaceWord, Word}
 use Rattle.word_layout.specs.declared.limits.Limits.{Limits}
 use Rattle.word_layout.proofs.RowPlaces.{row-nonzero}
 use Rattle.index_machine.specs.declared.events.Action.{Action}
 use Rattle.index_machine.specs.declared.events.Action.TheVariants.{FailLink, Freeze, LinkRow}
-use Rattle.index_machine.specs.declared.events.Action.TheVariants.{LoadHead, LoadLink, LoadPhase}
+use Rattle.index_machine.specs.declared.events.Action.TheVariants.{LoadHead, LoadHeader, LoadLink, LoadPhase}
 use Rattle.index_machine.specs.declared.events.Action.TheVariants.{NewGroup, StoreHeader}
 use Rattle.index_machine.specs.declared.events.Action.TheVariants.{StoreOpened, Thaw}
 use Rattle.index_machine.specs.declared.opening.Opening.{Opening}
 use Rattle.index_machine.specs.Execution.{Execution, Without, event}
+use Rattle.index_machine.specs.Lanes.{HasLane, begun_word, lanes}
 use Rattle.index_machine.specs.Words.{limits, link_behind, word}
 use Rattle.index_machine.specs.Sections.{IsCaller, IsKeeper, IsReading, StaysInside}
-use Rattle.index_machine.specs.Rows.{InBuffer, role, role_key}
+use Rattle.index_machine.specs.Rows.{InBuffer, Role, role, role_key}
 use Rattle.index_machine.specs.Reaching.{stands_in}
 use Rattle.index_machine.specs.RecordConditions.{IsLinkInto, MayFailLink, MayLink, MayLoadHead}
 use Rattle.index_machine.specs.RecordConditions.{MayLoadLink, MayWalk}
-use Rattle.index_machine.specs.RebuildConditions.{MayLoadPhase}
+use Rattle.index_machine.specs.RebuildConditions.{MayLoadHeader, MayLoadPhase}
 use Rattle.index_machine.specs.Represents.{has_stale_phase}
 use Rattle.index_machine.specs.Conditions.{Allowed, Valid}
 use Rattle.index_machine.proofs.Holding.{held_words_on}
 use Rattle.index_machine.proofs.Placing.{buffer_row, holds_on}
 use Rattle.index_machine.proofs.RepresentingAll.{represented}
+use Rattle.machine_buffers.proofs.BegunLanes.{HasSameLanes, cuts_rise, has_same, lanes_while}
+use Rattle.machine_buffers.proofs.BegunLanes.{rows_have_lanes}
 use Rattle.machine_buffers.proofs.InsertPermissions.{permission_while}
 use Rattle.machine_buffers.proofs.Phases.{true_while}
 use Rattle.machine_buffers.proofs.Walks.{decide, into_buffer, stay_before, walkable_while}
-use Rattle.machine_buffers.specs.Walks.{Decides, IsLinkBefore, IsWalkable}
+use Rattle.machine_buffers.specs.Walks.{AreRisingLanes, Decides, IsLinkBefore, IsWalkable}
 use Rattle.machine_readers.proofs.FromOpening.{gaps}
 use Rattle.machine_readers.proofs.ReadSections.{place_on, stands_in_on}
 use Rattle.machine_readers.specs.Buffers.{rows}
@@ -44,14 +49,19 @@ use Rattle.map_model.specs.Map.{look}
 use Rattle.index_rule.specs.declared.board.Board.{Board}
 use Rattle.index_rule.specs.declared.hand.Hand.{Hand}
 use Rattle.index_rule.specs.declared.view.View.{View}
-use Rattle.index_rule.specs.Buffers.{CanSeePhase, CanWalk, IsBehindKey, IsRowOf}
-use Rattle.index_rule.specs.Buffers.{MayInsertRow, inserted_by, key_in}
-use Rattle.index_rule.specs.Hands.{IsHandOf, known, opening_of}
-use Rattle.index_rule.specs.Rule.{Does, Kept, first_of, number, word_in}
-use Rattle.index_rule.specs.Steps.{group_of_role, head_load, link_failed, link_group, link_known}
+use Rattle.index_rule.specs.Buffers.{CanSeePhase, CanWalk, IsBehindKey, IsLaneHeader, IsRowOf}
+use Rattle.index_rule.specs.Buffers.{MayInsertRow, TellsBegun, inserted_by, key_in}
+use Rattle.index_rule.specs.Hands.{IsHandOf, Makes, known, opening_of}
+use Rattle.index_rule.specs.Offsets.{offset_of_word}
+use Rattle.index_rule.specs.Rule.{Does, Kept, first_of, word_in, number}
+use Rattle.index_rule.specs.Steps.{group_of_role, head_load, header_load, lane_known, lane_of_role}
+use Rattle.index_rule.specs.Steps.{link_failed, link_group, link_known, link_lane}
 use Rattle.index_rule.specs.Steps.{buffer_known, link_made, link_place, phase_load, row_link_load}
+use Rattle.index_rule.proofs.Lanes.{lane_is, lanes_on, walkable_on}
+use Rattle.index_rule.proofs.Offsets.{IsHot}
 use Rattle.index_rule.proofs.Standing.{keyed_on, reading_on, stays_inside}
 use Rattle.index_rule.proofs.StepKinds.{Tells, by_name, exchanges, loads}
+use Rattle.index_rule.proofs.Stepping.{known_is, others_only, valid_after}
 
 -- ---- what others leave ----
 
@@ -81,38 +91,55 @@ may_walk o c g t can = ⊎_elim
     (λ (z : IsReading o c t × (stands_in c g t ≡ true) × IsWalkable o g t). inl (z.0, z.1))
     (λ (z : IsKeeper o c). inr z) can
 
--- what a caller finds leads into the buffer
-leads_into : (o : Opening) (c g before : ℕ) (t : Execution) → Valid o t → CanWalk o c g t →
-    IsCaller o c → IsLinkInto o g before t → IsLinkInto o g (word o t (link_behind g before)) t
-leads_into o c g before t valid can caller into = ⊎_elim
+-- what a caller finds leads into the lane
+leads_into : (o : Opening) (c g lane before : ℕ) (t : Execution) → Valid o t → CanWalk o c g t →
+    IsCaller o c → lane < lanes o g t → IsLinkInto o g lane before t →
+    IsLinkInto o g lane (word o t (link_behind g lane before)) t
+leads_into o c g lane before t valid can caller is_lane into = ⊎_elim
     (λ (z : IsReading o c t × (stands_in c g t ≡ true) × IsWalkable o g t).
-    into_buffer o t valid g before z.2 into)
+    into_buffer o t valid g lane before z.2 is_lane into)
     (λ (z : IsKeeper o c). absurd (omega (arith, caller, z))) can
 
 -- the word of the link behind a place that is not 0
-link_is : (g p : ℕ) → p ≢ 0 → link_behind g p ≡ PlaceWord p part.Link
-link_is g zero some = absurd (some refl)
-link_is g (suc n) some = refl
+link_is : (g lane p : ℕ) → p ≢ 0 → link_behind g lane p ≡ PlaceWord p part.Link
+link_is g lane zero some = absurd (some refl)
+link_is g lane (suc n) some = refl
 
 row_some : (o : Opening) (t : Execution) (g p : ℕ) → Valid o t → IsRowOf o g p t → p ≢ 0
 row_some o t g p valid row = row-nonzero (limits o) p (buffer_row o t valid p g row.0 row.1)
 
-may_load_head : (o : Opening) (c g : ℕ) (t : Execution) → Valid o t → CanWalk o c g t →
-    MayLoadHead o c g (word o t (Header g header.BufferHead)) t
-may_load_head o c g t valid can = record {
+may_load_head : (o : Opening) (c g lane : ℕ) (t : Execution) → Valid o t → CanWalk o c g t →
+    lane < lanes o g t → MayLoadHead o c g lane (word o t (Header g (header.Head lane))) t
+may_load_head o c g lane t valid can is_lane = record {
   allowed = may_walk o c g t can;
+  is_lane = is_lane;
   found_word = refl;
-  says = λ caller. leads_into o c g 0 t valid can caller (inl refl);
+  says = λ caller. leads_into o c g lane 0 t valid can caller is_lane (inl refl);
 }
+
+may_load_header : (o : Opening) (c g : ℕ) (which : HeaderWord) (t : Execution) → CanWalk o c g t →
+    MayLoadHeader o c g which (word o t (Header g which)) t
+may_load_header o c g which t can =
+    record { allowed = may_walk o c g t can; found_word = refl }
 
 may_load_link : (o : Opening) (c g p : ℕ) (t : Execution) → Valid o t → CanWalk o c g t →
     IsRowOf o g p t → MayLoadLink o c g p (word o t (PlaceWord p part.Link)) t
 may_load_link o c g p t valid can row = record {
   allowed = may_walk o c g t can;
   found_word = refl;
-  row = λ caller. row;
-  says = λ caller. subst (λ (w : Word). IsLinkInto o g (word o t w) t)
-      (link_is g p (row_some o t g p valid row)) (leads_into o c g p t valid can caller (inr row));
+  says = λ caller.
+      let in_lane = rows_have_lanes o t valid g row.0 p row.1 in
+      let lane : ℕ = in_lane.0 in
+      record {
+        lane = lane;
+        key = row.0;
+        row = row.1;
+        in_lane = in_lane.1;
+        link = subst (λ (w : Word). IsLinkInto o g lane (word o t w) t)
+            (link_is g lane p (row_some o t g p valid row))
+            (leads_into o c g lane p t valid can caller in_lane.1.is_lane
+            (inr (row.0, row.1, in_lane.1)));
+      };
 }
 
 -- ---- phases ----
@@ -163,29 +190,47 @@ may_load_phase o c g t valid can = record {
 
 -- ---- linking a row ----
 
+-- a link before a key is one of the lane
+pub link_before_into : (o : Opening) (g lane k before : ℕ) (t : Execution) →
+    IsLinkBefore o g lane k before t → IsLinkInto o g lane before t
+link_before_into o g lane k before t stands = ⊎_elim (λ (z : before ≡ 0). inl z)
+    (λ (z : (j : ℕ) × (role o before t ≡ InBuffer g j) × HasLane o g lane j t × (j < k)).
+    inr (z.0, z.1, z.2)) stands
+
+-- so it is none, or that of a row
+known_behind : (o : Opening) (g lane before : ℕ) (t : Execution) → IsLinkInto o g lane before t →
+    (before ≡ 0) ⊎ IsRowOf o g before t
+known_behind o g lane before t into = ⊎_elim (λ (z : before ≡ 0). inl z)
+    (λ (z : (k : ℕ) × (role o before t ≡ InBuffer g k) × HasLane o g lane k t). inr (z.0, z.1)) into
+
 -- what stays of a caller that may insert its row
-still_may_insert : (o : Opening) (c g p before next : ℕ) (n t : Execution) → Valid o (n ++ t) →
-    Without c n → MayInsertRow o c g p before next t →
-    word o (n ++ t) (link_behind g before) ≡ next →
-    MayLink o (n ++ t) c g p (inserted_by o c p t) before next
-still_may_insert o c g p before next n t valid out may hit =
+still_may_insert : (o : Opening) (c g lane p before next : ℕ) (n t : Execution) →
+    Valid o (n ++ t) → Without c n → MayInsertRow o c g lane p before next t →
+    word o (n ++ t) (link_behind g lane before) ≡ next →
+    MayLink o (n ++ t) c g lane p (inserted_by o c p t) before next
+still_may_insert o c g lane p before next n t valid out may hit =
     let caller = may.reading.caller in
     let stay : StaysInside c n = stays_inside c n out in
     let T : Execution = n ++ t in
     let k : ℕ = key_in o p t in
     let w : IsWalkable o g T = walkable_while o c g caller n t valid stay may.stands may.walkable in
     let kept = held_words_on o c p n t valid out may.filled.held in
-    let behind : IsLinkBefore o g k before T =
-    stay_before o c g k before caller n t valid stay may.stands may.behind in
+    let in_lane : HasLane o g lane k T =
+    has_same o g lane k t T (λ which. lanes_while o c g which caller n t valid stay may.stands)
+    may.in_lane in
+    let behind : IsLinkBefore o g lane k before T =
+    stay_before o c g lane k before caller n t valid stay may.stands may.behind in
     let ahead : IsBehindKey o g k next T = ⊎_elim (λ (z : next ≡ 0). inl z)
     (λ (z : (j : ℕ) × (role o next t ≡ InBuffer g j) × (k < j)).
     inr (z.0, place_on o c g caller next z.0 n t valid stay may.stands (inr z.1) ∙ z.1, z.2))
     may.ahead in
-    let says : Decides o g k next T =
-    subst (λ (y : ℕ). Decides o g k y T) hit (decide o T valid g k before w behind) in
+    let says : Decides o g lane k next T =
+    subst (λ (y : ℕ). Decides o g lane k y T) hit (decide o T valid g lane k before w in_lane behind)
+    in
     let gap : look (rows g T) k ≡ None = ⊎_elim (λ (z : next ≡ 0). says.none z)
     (λ (z : (j : ℕ) × (role o next T ≡ InBuffer g j) × (k < j)). says.greater z.0 z.1 z.2) ahead in
     let belongs = may.belongs n valid out gap in
+    let into : IsLinkInto o g lane before T = link_before_into o g lane k before T behind in
     record {
       caller = caller;
       value = word o t (PlaceWord p part.Value);
@@ -194,8 +239,8 @@ still_may_insert o c g p before next n t valid out may hit =
       value_word = kept part.Value;
       new_word = kept part.State ∙ may.filled.new_word;
       link_word = kept part.Link ∙ may.filled.link_word;
-      behind = ⊎_elim (λ (z : before ≡ 0). inl z)
-          (λ (z : (j : ℕ) × (role o before T ≡ InBuffer g j) × (j < k)). inr (z.0, z.1)) behind;
+      in_lane = in_lane;
+      behind = into;
       expected = hit;
       makes = (refl, refl, refl);
       permission = permission_while o c g caller n t valid stay may.permission;
@@ -204,10 +249,10 @@ still_may_insert o c g p before next n t valid out may hit =
       alone = gaps o T valid g k gap;
       behind_smaller = λ i e. ⊎_elim
           (λ (z : before ≡ 0). absurd (row_some o T g before valid (i, e) z))
-          (λ (z : (j : ℕ) × (role o before T ≡ InBuffer g j) × (j < k)).
-          subst (λ (y : ℕ). y < k) (key_is (sym z.1 ∙ e)) z.2) behind;
-      ahead = ⊎_elim (λ (z : next ≡ 0). inl z)
-          (λ (z : (j : ℕ) × (role o next T ≡ InBuffer g j) × (k < j)). inr (z.0, z.1)) ahead;
+          (λ (z : (j : ℕ) × (role o before T ≡ InBuffer g j) × HasLane o g lane j T × (j < k)).
+          subst (λ (y : ℕ). y < k) (key_is (sym z.1 ∙ e)) z.3) behind;
+      ahead = subst (λ (y : ℕ). IsLinkInto o g lane y T) hit
+          (into_buffer o T valid g lane before w in_lane.is_lane into);
       ahead_greater = λ i e. ⊎_elim
           (λ (z : next ≡ 0). absurd (row_some o T g next valid (i, e) z))
           (λ (z : (j : ℕ) × (role o next T ≡ InBuffer g j) × (k < j)).
@@ -217,11 +262,15 @@ still_may_insert o c g p before next n t valid out may hit =
     key_is : {i j : ℕ} → InBuffer g i ≡ InBuffer g j → i ≡ j
     key_is e = cc
 
-may_fail_link : (o : Opening) (c g p before next : ℕ) (n t : Execution) → Without c n →
-    MayInsertRow o c g p before next t → next ≢ word o (n ++ t) (link_behind g before) →
-    MayFailLink o c g before next (word o (n ++ t) (link_behind g before)) (n ++ t)
-may_fail_link o c g p before next n t out may ne = record {
+may_fail_link : (o : Opening) (c g lane p before next : ℕ) (n t : Execution) → Valid o (n ++ t) →
+    Without c n → MayInsertRow o c g lane p before next t → next ≢ word o (n ++ t) (link_behind g lane before) →
+    MayFailLink o c g lane before next (word o (n ++ t) (link_behind g lane before)) (n ++ t)
+may_fail_link o c g lane p before next n t valid out may ne = record {
   reading = reading_on o c n t (stays_inside c n out) may.reading;
+  is_lane = (has_same o g lane (key_in o p t) t (n ++ t)
+      (λ which.
+      lanes_while o c g which may.reading.caller n t valid (stays_inside c n out) may.stands)
+      may.in_lane).is_lane;
   found_word = refl;
   differs = ne;
 }
@@ -236,55 +285,109 @@ row_by_hand b h g p of row =
     (λ follows. buffer_row (opening_of b) (known h) follows.valid p g row.0 row.1)
 
 -- the link behind a place is a word of the table
-pub link_word_of : (l : Limits) (g before : ℕ) → g < l.groups → (before ≡ 0) ⊎ IsRow l before →
-    IsWord l (link_behind g before)
-link_word_of l g zero low row = low
-link_word_of l g (suc n) low row = ⊎_elim (λ (z : suc n ≡ 0). absurd (omega (arith, z)))
+pub link_word_of : (l : Limits) (g lane before : ℕ) → g < l.groups → lane < most_lanes →
+    (before ≡ 0) ⊎ IsRow l before → IsWord l (link_behind g lane before)
+link_word_of l g lane zero low few row = (low, few)
+link_word_of l g lane (suc n) low few row = ⊎_elim (λ (z : suc n ≡ 0). absurd (omega (arith, z)))
     (λ (z : IsRow l (suc n)). inl z) row
 
 -- the place behind which a hand links is none, or a row
-pub behind_by_hand : (b : Board) (h : Hand) (g p before next : ℕ) → IsHandOf b h →
-    MayInsertRow (opening_of b) h.number g p before next (known h) →
+pub behind_by_hand : (b : Board) (h : Hand) (g lane p before next : ℕ) → IsHandOf b h →
+    MayInsertRow (opening_of b) h.number g lane p before next (known h) →
     (before ≡ 0) ⊎ IsRow (limits (opening_of b)) before
-behind_by_hand b h g p before next of may = ⊎_elim (λ (z : before ≡ 0). inl z)
-    (λ (z : (j : ℕ) × (role (opening_of b) before (known h) ≡ InBuffer g j)
-    × (j < key_in (opening_of b) p (known h))).
-    inr (row_by_hand b h g before of (z.0, z.1))) may.behind
+behind_by_hand b h g lane p before next of may = ⊎_elim (λ (z : before ≡ 0). inl z)
+    (λ (z : IsRowOf (opening_of b) g before (known h)). inr (row_by_hand b h g before of z))
+    (known_behind (opening_of b) g lane before (known h)
+    (link_before_into (opening_of b) g lane (key_in (opening_of b) p (known h)) before (known h)
+    may.behind))
+
+-- a lane of a group that the hand knows is one of a header's
+pub lane_by_hand : (b : Board) (h : Hand) (g lane : ℕ) → IsHandOf b h →
+    lane < lanes (opening_of b) g (known h) → lane < most_lanes
+lane_by_hand b h g lane of is_lane =
+    ∥∥₁_elim (h.following (opening_of b) of.opened) (hlevel props)
+    (λ follows.
+    let few = (cuts_rise (opening_of b) (known h) follows.valid g).few in omega arith)
+
+-- the header word that says a lane is one of a header's
+pub header_by_hand : (b : Board) (h : Hand) (g : ℕ) (which : HeaderWord) → IsHandOf b h →
+    IsLaneHeader (opening_of b) g which (known h) → IsHeaderWord which
+header_by_hand b h g header.Lanes of is = tt
+header_by_hand b h g (header.Cut lane) of is = lane_by_hand b h g lane of is
+header_by_hand b h g header.Pivot of is = absurd is
+header_by_hand b h g header.Size of is = absurd is
+header_by_hand b h g header.LineError of is = absurd is
+header_by_hand b h g header.Phase of is = absurd is
+header_by_hand b h g header.Next of is = absurd is
+header_by_hand b h g header.FirstSpare of is = absurd is
+header_by_hand b h g header.SecondSpare of is = absurd is
+header_by_hand b h g (header.Head lane) of is = absurd is
+
+-- a word that a header has is one of so many
+pub header_below : (which : HeaderWord) → IsHeaderWord which → number_of which < header_words
+header_below header.Pivot is = omega arith
+header_below header.Size is = omega arith
+header_below header.LineError is = omega arith
+header_below header.Lanes is = omega arith
+header_below header.Phase is = omega arith
+header_below header.Next is = omega arith
+header_below header.FirstSpare is = omega arith
+header_below header.SecondSpare is = omega arith
+header_below (header.Head lane) is = omega (arith, is)
+header_below (header.Cut lane) is = omega (arith, is)
 
 -- ---- what a link is told as ----
 
 -- the group of the link at a word, by its name
-group_named : (o : Opening) (v : View) (g before : ℕ) → v.opening ≡ Some o →
-    (before ≡ 0) ⊎ IsRowOf o g before v.known → link_group v (link_behind g before) ≡ g
-group_named o v g zero live row = refl
-group_named o v g (suc n) live row = ⊎_elim (λ (z : suc n ≡ 0). absurd (omega (arith, z)))
+group_named : (o : Opening) (v : View) (g lane before : ℕ) → v.opening ≡ Some o →
+    (before ≡ 0) ⊎ IsRowOf o g before v.known → link_group v (link_behind g lane before) ≡ g
+group_named o v g lane zero live row = refl
+group_named o v g lane (suc n) live row = ⊎_elim (λ (z : suc n ≡ 0). absurd (omega (arith, z)))
     (λ (z : IsRowOf o g (suc n) v.known).
     ap (λ (x : Option Opening). buffer_known x (suc n) v.known) live ∙ ap group_of_role z.1) row
 
-place_named : (g before : ℕ) → link_place (link_behind g before) ≡ before
-place_named g zero = refl
-place_named g (suc n) = refl
+-- and its lane
+lane_named : (o : Opening) (v : View) (g lane before : ℕ) → v.opening ≡ Some o →
+    AreRisingLanes o g v.known → IsLinkInto o g lane before v.known →
+    link_lane v (link_behind g lane before) ≡ lane
+lane_named o v g lane zero live rising into = refl
+lane_named o v g lane (suc n) live rising into = ⊎_elim
+    (λ (z : suc n ≡ 0). absurd (omega (arith, z)))
+    (λ (z : (k : ℕ) × (role o (suc n) v.known ≡ InBuffer g k) × HasLane o g lane k v.known).
+    ap (λ (x : Option Opening). lane_known x (suc n) v.known) live
+    ∙ (ap (λ (x : Role). lane_of_role o x v.known) z.1 ∙ lane_is o g lane z.0 v.known rising z.2))
+    into
 
-made_is : (o : Opening) (v : View) (c g p before next : ℕ) → v.numbers ≡ c ∷ [] →
-    v.opening ≡ Some o → (before ≡ 0) ⊎ IsRowOf o g before v.known →
-    link_made v (link_behind g before) next p
-    ≡ LinkRow g p (inserted_by o c p v.known) before next
-made_is o v c g p before next is live row =
-    ap (λ (x : Option Opening). link_known x v (link_group v (link_behind g before)) p
-    (link_place (link_behind g before)) next) live
-    ∙ (ap (λ (x : ℕ). LinkRow x p (inserted_by o (number v) p v.known)
-    (link_place (link_behind g before)) next) (group_named o v g before live row)
-    ∙ (ap (λ (x : ℕ). LinkRow g p (inserted_by o (number v) p v.known) x next)
-    (place_named g before)
-    ∙ ap (λ (x : ℕ). LinkRow g p (inserted_by o x p v.known) before next) (ap first_of is)))
+place_named : (g lane before : ℕ) → link_place (link_behind g lane before) ≡ before
+place_named g lane zero = refl
+place_named g lane (suc n) = refl
 
-failed_is : (o : Opening) (v : View) (g before next n : ℕ) → v.opening ≡ Some o →
-    (before ≡ 0) ⊎ IsRowOf o g before v.known →
-    link_failed v (link_behind g before) next n ≡ FailLink g before next n
-failed_is o v g before next n live row =
-    ap (λ (x : ℕ). FailLink x (link_place (link_behind g before)) next n)
-    (group_named o v g before live row)
-    ∙ ap (λ (x : ℕ). FailLink g x next n) (place_named g before)
+made_is : (o : Opening) (v : View) (c g lane p before next : ℕ) → v.numbers ≡ c ∷ [] →
+    v.opening ≡ Some o → AreRisingLanes o g v.known → IsLinkInto o g lane before v.known →
+    link_made v (link_behind g lane before) next p
+    ≡ LinkRow g lane p (inserted_by o c p v.known) before next
+made_is o v c g lane p before next is live rising into =
+    let w = link_behind g lane before in
+    ap (λ (x : Option Opening). link_known x v (link_group v w) (link_lane v w) p (link_place w) next)
+    live
+    ∙ ap (λ (x : ℕ × ℕ × ℕ × ℕ). LinkRow x.0 x.1 p (inserted_by o x.2 p v.known) x.3 next)
+    (λ i. (
+      group_named o v g lane before live (known_behind o g lane before v.known into) i,
+      lane_named o v g lane before live rising into i,
+      ap first_of is i,
+      place_named g lane before i,
+    ))
+
+failed_is : (o : Opening) (v : View) (g lane before next n : ℕ) → v.opening ≡ Some o →
+    AreRisingLanes o g v.known → IsLinkInto o g lane before v.known →
+    link_failed v (link_behind g lane before) next n ≡ FailLink g lane before next n
+failed_is o v g lane before next n live rising into =
+    ap (λ (x : ℕ × ℕ × ℕ). FailLink x.0 x.1 x.2 next n)
+    (λ i. (
+      group_named o v g lane before live (known_behind o g lane before v.known into) i,
+      lane_named o v g lane before live rising into i,
+      place_named g lane before i,
+    ))
 
 row_load_is : (o : Opening) (v : View) (g p n : ℕ) → v.opening ≡ Some o →
     IsRowOf o g p v.known → row_link_load v (PlaceWord p part.Link) n ≡ LoadLink g p n
@@ -292,22 +395,43 @@ row_load_is o v g p n live row =
     ap (λ (x : ℕ). LoadLink x p n)
     (ap (λ (x : Option Opening). buffer_known x p v.known) live ∙ ap group_of_role row.1)
 
+-- the word of a link is none of the hot ones
+pub link_not_hot : (g lane before : ℕ) → IsHot (link_behind g lane before) → ⊥
+link_not_hot g lane zero hot = hot
+link_not_hot g lane (suc p) hot = hot
+
 -- ---- the steps ----
 
 module _ (o : Opening) (slots id : ℕ) (me : Me (Unit {0}) View) (c : ℕ)
     (is : me.0.numbers ≡ c ∷ []) (live : me.0.opening ≡ Some o) where
-  pub loads_head : (g a : ℕ) → CanWalk o c g me.0.known → g < (limits o).groups →
-      a ≡ address_of (limits o) (Header g header.BufferHead) →
+  pub loads_head : (g lane a : ℕ) → CanWalk o c g me.0.known → lane < lanes o g me.0.known →
+      IsWord (limits o) (Header g (header.Head lane)) →
+      a ≡ offset_of_word (limits o) (Header g (header.Head lane)) →
       Allows (Kept o) slots id me a (λ n. n) (λ n x. Does me (head_load (word_in me.0 a) n) x)
-  loads_head g a can low at =
-      by_name o slots id me c is live (Header g header.BufferHead) a (λ n. n) head_load low at
-      (loads o slots id me c is live (Header g header.BufferHead) (λ n. LoadHead g n) low (λ _. tt)
-      (λ _. refl)
-      (λ t valid newer e out. may_load_head o c g t valid (subst (CanWalk o c g) e
+  loads_head g lane a can is_lane there at =
+      by_name o slots id me c is live (Header g (header.Head lane)) a (λ n. n) head_load there at
+      (loads o slots id me c is live (Header g (header.Head lane)) (λ n. LoadHead g lane n) there
+      (λ _. tt) (λ _. refl)
+      (λ t valid newer e out.
+      let before : Valid o (newer ++ me.0.known) = subst (Valid o) (sym e) valid in
+      may_load_head o c g lane t valid
+      (subst (CanWalk o c g) e (walk_on o c g newer me.0.known before out can))
+      (subst (λ (z : Execution). lane < lanes o g z) e
+      (subst (λ (z : ℕ). lane < z) (sym (lanes_on o c g newer me.0.known before out can header.Lanes))
+      is_lane))))
+
+  pub loads_header : (g : ℕ) (which : HeaderWord) (a : ℕ) → CanWalk o c g me.0.known →
+      IsWord (limits o) (Header g which) → a ≡ offset_of_word (limits o) (Header g which) →
+      Allows (Kept o) slots id me a (λ n. n) (λ n x. Does me (header_load (word_in me.0 a) n) x)
+  loads_header g which a can there at =
+      by_name o slots id me c is live (Header g which) a (λ n. n) header_load there at
+      (loads o slots id me c is live (Header g which) (λ n. LoadHeader g which n) there
+      (λ _. tt) (λ _. refl)
+      (λ t valid newer e out. may_load_header o c g which t (subst (CanWalk o c g) e
       (walk_on o c g newer me.0.known (subst (Valid o) (sym e) valid) out can))))
 
   pub loads_row_link : (g p a : ℕ) → CanWalk o c g me.0.known → IsRowOf o g p me.0.known →
-      IsPlace (limits o) p → a ≡ address_of (limits o) (PlaceWord p part.Link) →
+      IsPlace (limits o) p → a ≡ offset_of_word (limits o) (PlaceWord p part.Link) →
       Allows (Kept o) slots id me a (λ n. n)
       (λ n x. Does me (row_link_load me.0 (word_in me.0 a) n) x)
   loads_row_link g p a can row there at =
@@ -324,45 +448,47 @@ module _ (o : Opening) (slots id : ℕ) (me : Me (Unit {0}) View) (c : ℕ)
       (subst (IsRowOf o g p) e (row_of_on o c g p newer me.0.known before out can row)))))
 
   pub loads_phase : (g a : ℕ) → CanSeePhase o c g me.0.known → g < (limits o).groups →
-      a ≡ address_of (limits o) (Header g header.Phase) →
+      a ≡ offset_of_word (limits o) (Header g header.Phase) →
       Allows (Kept o) slots id me a (λ n. n) (λ n x. Does me (phase_load (word_in me.0 a) n) x)
   loads_phase g a can low at =
-      by_name o slots id me c is live (Header g header.Phase) a (λ n. n) phase_load low at
-      (loads o slots id me c is live (Header g header.Phase) (λ n. LoadPhase g n) low (λ _. tt)
+      by_name o slots id me c is live (Header g header.Phase) a (λ n. n) phase_load (low, tt) at
+      (loads o slots id me c is live (Header g header.Phase) (λ n. LoadPhase g n) (low, tt) (λ _. tt)
       (λ _. refl)
       (λ t valid newer e out. may_load_phase o c g t valid (subst (CanSeePhase o c g) e
       (sees_phase_on o c g newer me.0.known (subst (Valid o) (sym e) valid) out can))))
 
-  pub links_row : (g p before next a : ℕ) → MayInsertRow o c g p before next me.0.known →
-      IsWord (limits o) (link_behind g before) →
-      a ≡ address_of (limits o) (link_behind g before) →
+  pub links_row : (g lane p before next a : ℕ) → MayInsertRow o c g lane p before next me.0.known →
+      AreRisingLanes o g me.0.known → IsWord (limits o) (link_behind g lane before) →
+      a ≡ offset_of_word (limits o) (link_behind g lane before) →
       Allows (Kept o) slots id me a (λ n. either (n == next) p n)
       (λ n x. Does me (cond (n == next) (link_made me.0 (word_in me.0 a) next p)
       (link_failed me.0 (word_in me.0 a) next n)) x)
-  links_row g p before next a may there at =
-      by_name o slots id me c is live (link_behind g before) a (λ n. either (n == next) p n)
+  links_row g lane p before next a may rising there at =
+      by_name o slots id me c is live (link_behind g lane before) a (λ n. either (n == next) p n)
       (λ w n. cond (n == next) (link_made me.0 w next p) (link_failed me.0 w next n)) there at
-      (subst (Tells o slots id me c is live (link_behind g before) (λ n. either (n == next) p n))
-      (λ i n. cond (n == next) (sym (made_is o me.0 c g p before next is live row) i)
-      (sym (failed_is o me.0 g before next n live row) i))
-      (exchanges o slots id me c is live (link_behind g before) next p
-      (LinkRow g p (inserted_by o c p me.0.known) before next)
-      (λ n. FailLink g before next n) there tt (λ _. tt) refl (λ _. refl)
+      (subst
+      (Tells o slots id me c is live (link_behind g lane before) (λ n. either (n == next) p n))
+      (λ i n. cond (n == next) (sym (made_is o me.0 c g lane p before next is live rising into) i)
+      (sym (failed_is o me.0 g lane before next n live rising into) i))
+      (exchanges o slots id me c is live (link_behind g lane before) next p
+      (LinkRow g lane p (inserted_by o c p me.0.known) before next)
+      (λ n. FailLink g lane before next n) there tt (λ _. tt) refl (λ _. refl)
       (λ t valid newer e out. (
         (λ hit. subst
-            (λ (z : Execution). MayLink o z c g p (inserted_by o c p me.0.known) before next) e
-            (still_may_insert o c g p before next newer me.0.known (subst (Valid o) (sym e) valid)
-            out may (ap (λ (z : Execution). word o z (link_behind g before)) e ∙ hit))),
+            (λ (z : Execution). MayLink o z c g lane p (inserted_by o c p me.0.known) before next) e
+            (still_may_insert o c g lane p before next newer me.0.known
+            (subst (Valid o) (sym e) valid) out may
+            (ap (λ (z : Execution). word o z (link_behind g lane before)) e ∙ hit))),
         (λ ne. subst
-            (λ (z : Execution). MayFailLink o c g before next (word o z (link_behind g before)) z) e
-            (may_fail_link o c g p before next newer me.0.known out may
-            (λ z. ne (z ∙ ap (λ (y : Execution). word o y (link_behind g before)) e)))),
+            (λ (z : Execution).
+            MayFailLink o c g lane before next (word o z (link_behind g lane before)) z) e
+            (may_fail_link o c g lane p before next newer me.0.known
+            (subst (Valid o) (sym e) valid) out may
+            (λ z. ne (z ∙ ap (λ (y : Execution). word o y (link_behind g lane before)) e)))),
       ))))
     where
-      row : (before ≡ 0) ⊎ IsRowOf o g before me.0.known
-      row = ⊎_elim (λ (z : before ≡ 0). inl z)
-          (λ (z : (j : ℕ) × (role o before me.0.known ≡ InBuffer g j)
-          × (j < key_in o p me.0.known)). inr (z.0, z.1)) may.behind
+      into : IsLinkInto o g lane before me.0.known
+      into = link_before_into o g lane (key_in o p me.0.known) before me.0.known may.behind
 
 -- ---- what a step told its hand ----
 
@@ -375,40 +501,98 @@ row_link_told b h x u g p n of row named does =
     (ap (λ (z : Word). row_link_load h.seat.me.0 z n) named
     ∙ row_load_is (opening_of b) h.seat.me.0 g p n of.opened row) does
 
-known_behind : (o : Opening) (c g p before next : ℕ) (t : Execution) →
-    MayInsertRow o c g p before next t → (before ≡ 0) ⊎ IsRowOf o g before t
-known_behind o c g p before next t may = ⊎_elim (λ (z : before ≡ 0). inl z)
-    (λ (z : (j : ℕ) × (role o before t ≡ InBuffer g j) × (j < key_in o p t)).
-    inr (z.0, z.1)) may.behind
+-- what a header word of a walkable buffer says
+header_says : (o : Opening) (g : ℕ) (which : HeaderWord) (t : Execution) → IsWalkable o g t →
+    IsLaneHeader o g which t → word o t (Header g which) ≡ begun_word o g which t
+header_says o g header.Lanes t w is = w.lanes_word
+header_says o g (header.Cut lane) t w is = w.cut_words lane is
+header_says o g header.Pivot t w is = absurd is
+header_says o g header.Size t w is = absurd is
+header_says o g header.LineError t w is = absurd is
+header_says o g header.Phase t w is = absurd is
+header_says o g header.Next t w is = absurd is
+header_says o g header.FirstSpare t w is = absurd is
+header_says o g header.SecondSpare t w is = absurd is
+header_says o g (header.Head lane) t w is = absurd is
+
+is_lane_header_same : (o : Opening) (g : ℕ) (which : HeaderWord) (t later : Execution) →
+    HasSameLanes o g t later → IsLaneHeader o g which t → IsLaneHeader o g which later
+is_lane_header_same o g header.Lanes t later same is = tt
+is_lane_header_same o g (header.Cut lane) t later same is =
+    subst (λ (y : ℕ). lane < y) (sym (same header.Lanes)) is
+is_lane_header_same o g header.Pivot t later same is = absurd is
+is_lane_header_same o g header.Size t later same is = absurd is
+is_lane_header_same o g header.LineError t later same is = absurd is
+is_lane_header_same o g header.Phase t later same is = absurd is
+is_lane_header_same o g header.Next t later same is = absurd is
+is_lane_header_same o g header.FirstSpare t later same is = absurd is
+is_lane_header_same o g header.SecondSpare t later same is = absurd is
+is_lane_header_same o g (header.Head lane) t later same is = absurd is
+
+-- a header word that was loaded tells what the group was begun with
+pub header_told : (b : Board) (h k : Hand) (g : ℕ) (which : HeaderWord) (found : ℕ) →
+    IsHandOf b h → Makes b h (LoadHeader g which found) k →
+    CanWalk (opening_of b) h.number g (known h) →
+    IsLaneHeader (opening_of b) g which (known h) → IsWalkable (opening_of b) g (known h) →
+    TellsBegun (opening_of b) g which found (known h) (known k)
+header_told b h k g which found of m can is w =
+    let o = opening_of b in
+    let c : ℕ = h.number in
+    let n : Execution = m.acts.0 in
+    let t : Execution = n ++ known h in
+    let valid = valid_after b h k (LoadHeader g which found) of m in
+    let out = others_only b h k (LoadHeader g which found) of m in
+    let same = lanes_on o c g n (known h) valid.1 out can in
+    let there : begun_word o g which t ≡ found =
+    sym (header_says o g which t (walkable_on o c g n (known h) valid.1 out can w)
+    (is_lane_header_same o g which (known h) t same is)) ∙ valid.0.found_word in (
+      sym (same which) ∙ there,
+      ap (begun_word o g which) (known_is b h k (LoadHeader g which found) of m) ∙ there,
+    )
+
+-- the lanes of a group that the hand knows rise
+pub rising_by_hand : (b : Board) (h : Hand) (g : ℕ) → IsHandOf b h →
+    AreRisingLanes (opening_of b) g (known h)
+rising_by_hand b h g of =
+    ∥∥₁_elim (h.following (opening_of b) of.opened) (hlevel props)
+    (λ follows. cuts_rise (opening_of b) (known h) follows.valid g)
+
+insert_into : (b : Board) (h : Hand) (g lane p before next : ℕ) →
+    MayInsertRow (opening_of b) h.number g lane p before next (known h) →
+    IsLinkInto (opening_of b) g lane before (known h)
+insert_into b h g lane p before next may =
+    link_before_into (opening_of b) g lane (key_in (opening_of b) p (known h)) before (known h)
+    may.behind
 
 -- the exchange that linked the row
 pub link_taken : (b : Board) (h : Hand) (x : Me (Unit {0}) View) (u : Word)
-    (g p before next n : ℕ) → IsHandOf b h →
-    MayInsertRow (opening_of b) h.number g p before next (known h) → u ≡ link_behind g before →
-    n ≡ next →
+    (g lane p before next n : ℕ) → IsHandOf b h →
+    MayInsertRow (opening_of b) h.number g lane p before next (known h) →
+    u ≡ link_behind g lane before → n ≡ next →
     Does h.seat.me (cond (n == next) (link_made h.seat.me.0 u next p)
     (link_failed h.seat.me.0 u next n)) x →
-    Does h.seat.me (LinkRow g p (inserted_by (opening_of b) h.number p (known h)) before next) x
-link_taken b h x u g p before next n of may named hit does =
+    Does h.seat.me
+    (LinkRow g lane p (inserted_by (opening_of b) h.number p (known h)) before next) x
+link_taken b h x u g lane p before next n of may named hit does =
     subst (λ (d : Action). Does h.seat.me d x)
     (ap (λ (z : Bool). cond z (link_made h.seat.me.0 u next p) (link_failed h.seat.me.0 u next n))
     (eq-eqb n next hit)
     ∙ (ap (λ (z : Word). link_made h.seat.me.0 z next p) named
-    ∙ made_is (opening_of b) h.seat.me.0 h.number g p before next h.mine of.opened
-    (known_behind (opening_of b) h.number g p before next (known h) may))) does
+    ∙ made_is (opening_of b) h.seat.me.0 h.number g lane p before next h.mine of.opened
+    (rising_by_hand b h g of) (insert_into b h g lane p before next may))) does
 
 -- and the one that found another link
 pub link_lost : (b : Board) (h : Hand) (x : Me (Unit {0}) View) (u : Word)
-    (g p before next n : ℕ) → IsHandOf b h →
-    MayInsertRow (opening_of b) h.number g p before next (known h) → u ≡ link_behind g before →
-    n ≢ next →
+    (g lane p before next n : ℕ) → IsHandOf b h →
+    MayInsertRow (opening_of b) h.number g lane p before next (known h) →
+    u ≡ link_behind g lane before → n ≢ next →
     Does h.seat.me (cond (n == next) (link_made h.seat.me.0 u next p)
     (link_failed h.seat.me.0 u next n)) x →
-    Does h.seat.me (FailLink g before next n) x
-link_lost b h x u g p before next n of may named differ does =
+    Does h.seat.me (FailLink g lane before next n) x
+link_lost b h x u g lane p before next n of may named differ does =
     subst (λ (d : Action). Does h.seat.me d x)
     (ap (λ (z : Bool). cond z (link_made h.seat.me.0 u next p) (link_failed h.seat.me.0 u next n))
     (ne_eqb n next differ)
     ∙ (ap (λ (z : Word). link_failed h.seat.me.0 z next n) named
-    ∙ failed_is (opening_of b) h.seat.me.0 g before next n of.opened
-    (known_behind (opening_of b) h.number g p before next (known h) may))) does
+    ∙ failed_is (opening_of b) h.seat.me.0 g lane before next n of.opened
+    (rising_by_hand b h g of) (insert_into b h g lane p before next may))) does

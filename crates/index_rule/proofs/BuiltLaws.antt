@@ -79,7 +79,7 @@ form_step first place hand (StoreValue q y) f built is =
     chosen (q == place) (with_value y f) f (valued y f is) is
 form_step first place hand (Unlock q r d w) f built is =
     chosen (q == place) (without_lock r f) f (unlocked r f is) is
-form_step first place hand (LinkRow g q d before next) f built is =
+form_step first place hand (LinkRow g lane q d before next) f built is =
     chosen (q == place) (Unlocked first false (put_value d)) f tt is
 form_step first place hand (StoreRedirect g q k to) f built is = absurd built
 form_step first place hand (Close q x) f built is = absurd built
@@ -135,7 +135,7 @@ array_step o t by (PushFree pushed head) g k place may built =
       (λ is. choice-other pushed place Unused (role o place t) else ∙ is),
       λ is. sym (choice-other pushed place Unused (role o place t) else) ∙ is,
     ))
-array_step o t by (LinkRow group q d before next) g k place may built =
+array_step o t by (LinkRow group lane q d before next) g k place may built =
     dite (ℕ_discrete q place)
     (λ (here : q ≡ place). (
       (λ is. absurd
@@ -213,9 +213,10 @@ rows_in_group o (e ∷ t) valid built place g k is =
     (λ (z : role o place t ≡ InBuffer g k).
     rows_in_group o t valid.1 built.1 place g k z)
     (λ (z : IsLinkOf g place k e.action).
-    let may = may_as o t e.by e.action (LinkRow g place z.0 z.1 z.2) z.3 valid.0 in
-    subst (λ (j : ℕ). g ≡ opening_group o j) z.4
-    (buffer_is o t (key_of z.0) g built.1 may.belongs))
+    let may = may_as o t e.by e.action (LinkRow g z.lane place z.change z.before z.next)
+    z.is valid.0 in
+    subst (λ (j : ℕ). g ≡ opening_group o j) z.key
+    (buffer_is o t (key_of z.change) g built.1 may.belongs))
     (row_back o t e.by e.action place g k is)
 
 -- ---- keys ----

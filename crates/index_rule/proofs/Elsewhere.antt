@@ -50,7 +50,8 @@ buffer_step o t b d g k may closed none p row =
     (λ (was : role o p t ≡ InBuffer g k).
     buffer_tombstones o t b d p g k may closed was (none p was))
     (λ (new : IsLinkOf g p k d).
-    let link = may_as o t b d (LinkRow g p new.0 new.1 new.2) new.3 may in
+    let link = may_as o t b d (LinkRow g new.lane p new.change new.before new.next)
+    new.is may in
     absurd (closed b link.caller link.permission))
     (row_back o t b d p g k row)
 

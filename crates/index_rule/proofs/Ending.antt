@@ -5,8 +5,6 @@ use Rattle.std.proofs.Common.{length, slice_index, refl, sym, ap, ◌∙◌, sub
 use mathlib.Core.Option.{some, some-injective, some-ne-none}
 use lib.ListN.{get_elem?}
 use Rattle.word_layout.specs.Limits.{word_count}
-use Rattle.word_layout.specs.Words.{address_of}
-use Rattle.word_layout.proofs.WordNames.{address_of-within}
 use Rattle.index_machine.specs.Words.{limits}
 use Rattle.atomic_table.specs.Table.{Final, Seen}
 use Rattle.index_machine.specs.declared.opening.Opening.{Opening}
@@ -16,12 +14,13 @@ use Rattle.index_rule.specs.declared.board.Board.{Board}
 use Rattle.index_rule.specs.declared.hand.Hand.{Hand}
 use Rattle.index_rule.specs.declared.view.View.{View}
 use Rattle.index_rule.specs.declared.view.Heard.{Heard}
-use Rattle.opened_table.specs.Laying.{StandsFor}
 use Rattle.index_rule.specs.Rule.{Owns, GoesOn, GoesOnFromAll, AreOwn, Knows, Kept}
 use Rattle.index_rule.specs.Hands.{known, view, IsHandOf}
 use Rattle.index_rule.specs.Seats.{joined, heard_of}
 use Rattle.index_rule.specs.Ended.{AreOf, AreOutside, EndsFor, IsHeard, Includes, IncludesAll}
-use Rattle.index_rule.specs.Ended.{Leaves}
+use Rattle.index_rule.specs.Ended.{Leaves, LeavesInMemory}
+use Rattle.index_rule.specs.Offsets.{HoldsWords, Spreads, offset_of}
+use Rattle.index_rule.proofs.Offsets.{gathered-stands}
 use Rattle.index_rule.proofs.Seats.{goes_further, in_left, in_right}
 use Rattle.index_rule.proofs.Steps.{is_some}
 
@@ -102,7 +101,7 @@ ends_all o t v (h ∷ hs) k all = (ends_one o t v h k all.0, ends_all o t v hs k
 
 pub ended : (o : Opening) (id : ℕ) (v : View) (hs : List Hand) (ws : List ℕ)
     (xs : List (Unit {0})) → v.opening ≡ Some o → IncludesAll v hs →
-    Final (Seen (Kept o) id v) ws xs → Leaves o hs ws
+    Final (Seen (Kept o) id v) ws xs → LeavesInMemory o hs ws
 ended o id v hs ws xs of all f =
     let r = f.1.0 in
     let k = r.known id v f.1.1 (is_some v.opening o of) in
@@ -111,7 +110,7 @@ ended o id v hs ws xs of all f =
       valid = r.valid;
       built = r.built;
       ends = ends_all o r.execution v hs k all;
-      left = subst (λ (z : List ℕ). StandsFor o z r.execution) f.2 r.words;
+      held = subst (λ (z : List ℕ). HoldsWords o z r.execution) f.2 r.words;
     }
 
 pub are_of : (b : Board) (hs : List Hand) → AreOutside b hs → AreOf b hs
@@ -146,20 +145,18 @@ got [] i x e = absurd (some-ne-none x (sym e))
 got (a ∷ l) zero x e = some-injective a x e
 got (a ∷ l) (suc i) x e = got l i x e
 
--- a list that agrees at every address stands for the same
-pub leaves_alike : (o : Opening) (hs : List Hand) (ws us : List ℕ) →
-    length us ≡ word_count (limits o) →
-    ((k : ℕ) → k < word_count (limits o) → slice_index us k ≡ slice_index ws k) →
-    Leaves o hs ws → Leaves o hs us
-leaves_alike o hs ws us wide same old =
+-- the words that were gathered by their addresses are those that are left
+pub leaves_gathered : (o : Opening) (hs : List Hand) (words memory : List ℕ) →
+    length words ≡ word_count (limits o) →
+    ((a : ℕ) → a < word_count (limits o) →
+    slice_index memory (offset_of (limits o) a) ≡ slice_index words a) →
+    LeavesInMemory o hs memory → Leaves o hs words
+leaves_gathered o hs words memory wide each left =
+    let spread : Spreads (limits o) words memory = record { wide = left.held.wide; each = each } in
     record {
-      execution = old.execution;
-      valid = old.valid;
-      built = old.built;
-      ends = old.ends;
-      left = record {
-        wide = wide;
-        named = λ w is. same (address_of (limits o) w) (address_of-within (limits o) w is)
-            ∙ old.left.named w is;
-      };
+      execution = left.execution;
+      valid = left.valid;
+      built = left.built;
+      ends = left.ends;
+      left = gathered-stands o words memory left.execution left.held spread wide;
     }

@@ -9,7 +9,7 @@ use Rattle.atomic_table.specs.Table.{Me, Allows}
 use Rattle.word_layout.specs.declared.places.Part.{Part}
 use Rattle.word_layout.specs.declared.places.Part.TheVariants.{Link}
 use Rattle.word_layout.specs.Places.{FitsPart, IsRow}
-use Rattle.word_layout.specs.Words.{FreeHead, PlaceWord, address_of}
+use Rattle.word_layout.specs.Words.{FreeHead, PlaceWord}
 use Rattle.word_layout.proofs.RowPlaces.{row-nonzero}
 use Rattle.index_machine.specs.declared.events.Action.TheVariants.{LoadFree, LoadFreeLink, PopFree}
 use Rattle.index_machine.specs.declared.events.Action.TheVariants.{FailPop, StorePrivate, PushFree}
@@ -32,6 +32,7 @@ use Rattle.index_rule.specs.declared.board.Board.{Board}
 use Rattle.index_rule.specs.declared.hand.Hand.{Hand}
 use Rattle.index_rule.specs.declared.view.View.{View}
 use Rattle.index_rule.specs.Hands.{IsHandOf, known, opening_of, view}
+use Rattle.index_rule.specs.Offsets.{offset_of_word}
 use Rattle.index_rule.specs.Rule.{Acts, Follows, Kept, Does, number, word_in}
 use Rattle.index_rule.specs.Steps.{link_load, private_store}
 use Rattle.index_rule.proofs.StepKinds.{loads, stores, exchanges, by_name}
@@ -76,7 +77,7 @@ module _ (o : Opening) (slots id : ℕ) (me : Me (Unit {0}) View) (c : ℕ)
 
   -- ---- the head and its link ----
 
-  pub loads_free : (a : ℕ) → MayLoadFree o c me.0.known → a ≡ address_of (limits o) FreeHead →
+  pub loads_free : (a : ℕ) → MayLoadFree o c me.0.known → a ≡ offset_of_word (limits o) FreeHead →
       Allows (Kept o) slots id me a (λ n. n) (λ n x. Does me (LoadFree n) x)
   loads_free a may at =
       subst (λ (z : ℕ). Allows (Kept o) slots id me z (λ n. n) (λ n x. Does me (LoadFree n) x))
@@ -89,7 +90,7 @@ module _ (o : Opening) (slots id : ℕ) (me : Me (Unit {0}) View) (c : ℕ)
       )))
 
   pub loads_link : (place a : ℕ) → IsReading o c me.0.known → Observes c place me.0.known →
-      IsRow (limits o) place → a ≡ address_of (limits o) (PlaceWord place Link) →
+      IsRow (limits o) place → a ≡ offset_of_word (limits o) (PlaceWord place Link) →
       Allows (Kept o) slots id me a (λ n. n) (λ n x. Does me (link_load (word_in me.0 a) n) x)
   loads_link place a reading seen row at =
       by_name o slots id me c is live (PlaceWord place Link) a (λ n. n) link_load (inl row) at
@@ -102,7 +103,7 @@ module _ (o : Opening) (slots id : ℕ) (me : Me (Unit {0}) View) (c : ℕ)
       )))
 
   pub pops : (a p n : ℕ) → IsReading o c me.0.known → observed_head c me.0.known ≡ HeadAndLink p n →
-      HoldsNone o c me.0.known → a ≡ address_of (limits o) FreeHead →
+      HoldsNone o c me.0.known → a ≡ offset_of_word (limits o) FreeHead →
       Allows (Kept o) slots id me a (λ m. either (m == p) n m)
       (λ m x. Does me (cond (m == p) (PopFree p n) (FailPop p m)) x)
   pops a p n reading seen none at =
@@ -147,7 +148,7 @@ module _ (o : Opening) (slots id : ℕ) (me : Me (Unit {0}) View) (c : ℕ)
 
   pub stores_private : (place : ℕ) (part : Part) (value a : ℕ) → Holds o c place me.0.known →
       FitsPart (limits o) part value → IsRow (limits o) place →
-      a ≡ address_of (limits o) (PlaceWord place part) →
+      a ≡ offset_of_word (limits o) (PlaceWord place part) →
       Allows (Kept o) slots id me a (λ _. value)
       (λ _ x. Does me (private_store (word_in me.0 a) value) x)
   stores_private place part value a held fits row at =
@@ -163,7 +164,7 @@ module _ (o : Opening) (slots id : ℕ) (me : Me (Unit {0}) View) (c : ℕ)
 
   pub pushes : (a p n : ℕ) → IsKeeper o c → Holds o c p me.0.known →
       word o me.0.known (PlaceWord p Link) ≡ n → IsUnobserved o p me.0.known →
-      a ≡ address_of (limits o) FreeHead →
+      a ≡ offset_of_word (limits o) FreeHead →
       Allows (Kept o) slots id me a (λ m. either (m == n) p m)
       (λ m x. Does me (cond (m == n) (PushFree p n) (FailPush p n m)) x)
   pushes a p n keeper held link unseen at =

@@ -1,5 +1,6 @@
 pub mod BuiltLaws
 pub mod Logging
+pub mod Offsets
 pub mod Steps
 pub mod Moments
 pub mod Looking
@@ -17,6 +18,7 @@ pub mod StateForms
 pub mod LockWords
 pub mod RecordSteps
 pub mod RootSteps
+pub mod Lanes
 pub mod BufferSteps
 pub mod Calls
 pub mod RecordStepping

@@ -117,7 +117,7 @@ copied_away-lock Moved l e = e
 -- version
 lock_before : (first place b : ℕ) (d : Action) (f : Form) (l : Fields) → (TakesLock d → b ≢ l.0) →
     lock (form_after first place b d f) ≡ Some l → lock f ≡ Some l
-lock_before first place b (LinkRow g q d before next) f l other e =
+lock_before first place b (LinkRow g lane q d before next) f l other e =
     either_lock (q == place) (Unlocked first false (put_value d)) f l none_is e
 lock_before first place b (Lock q x) f l other e =
     either_lock (q == place) (with_lock b f) f l (with_lock-lock b f l (other tt)) e

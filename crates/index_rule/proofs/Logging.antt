@@ -40,7 +40,7 @@ other_step o t by hand (Unlock p r d w) log may other old =
     let m = may.1 in
     others_keep (opening_map o) hand (history t) log d old
     (λ e. other (sym (by_maker by m.was r m.value d m.makes) ∙ e))
-other_step o t by hand (LinkRow g p d before next) log may other old =
+other_step o t by hand (LinkRow g lane p d before next) log may other old =
     others_keep (opening_map o) hand (history t) log d old
     (λ e. other (sym (by_maker by _ _ may.value d may.makes) ∙ e))
 other_step o t by hand d log may other old = old
@@ -62,7 +62,7 @@ log_more o t hand (Unlock p r d w) log may old =
     let m = may.1 in
     changes_end (opening_map o) hand (history t) log d old
     (by_maker hand m.was r m.value d m.makes)
-log_more o t hand (LinkRow g p d before next) log may old =
+log_more o t hand (LinkRow g lane p d before next) log may old =
     changes_end (opening_map o) hand (history t) log d old
     (by_maker hand _ _ may.value d may.makes)
 log_more o t hand d log may old = old

@@ -17,7 +17,7 @@ use Rattle.index_rule.proofs.Seats.{one_begins}
 history_more : (d : Action) (h : History) →
     (newer : History) × (newer ++ h ≡ history_after d h)
 history_more (Unlock p r d w) h = (d ∷ [], refl)
-history_more (LinkRow g p d before next) h = (d ∷ [], refl)
+history_more (LinkRow g lane p d before next) h = (d ∷ [], refl)
 history_more d h = ([], refl)
 
 append_more : (m n h : History) → (newer : History) × (newer ++ h ≡ m ++ (n ++ h))

@@ -16,7 +16,7 @@ use Rattle.index_machine.proofs.Holders.{holds_no_lock_first}
 use Rattle.index_rule.specs.declared.view.View.{View}
 use Rattle.index_rule.specs.declared.board.Board.{Board}
 use Rattle.index_rule.specs.declared.hand.Hand.{Hand}
-use Rattle.opened_table.specs.Laying.{StandsFor}
+use Rattle.index_rule.specs.Offsets.{HoldsWords}
 use Rattle.index_rule.specs.Rule.{Kept, Knows, IsFollowing, KeepsLockedWord}
 use Rattle.index_rule.specs.Rule.{first_view, counting}
 use Rattle.index_rule.specs.Hands.{IsHandOf, opening_of, view}
@@ -46,15 +46,15 @@ only : (x y : View) (i : ℕ) → get_elem? (x ∷ []) i ≡ some y → (i ≡ 0
 only x y zero e = (refl, some-injective x y e)
 only x y (suc i) e = absurd (some-ne-none y (sym e))
 
-pub opens : (o : Opening) (words : List ℕ) → StandsFor o words [] →
-    Kept o (opening {S = Unit {0}} words [] (first_view o))
-opens o words stands =
+pub opens : (o : Opening) (memory : List ℕ) → HoldsWords o memory [] →
+    Kept o (opening {S = Unit {0}} memory [] (first_view o))
+opens o memory holds =
     let n : ℕ = (limits o).callers + 1 in
     record {
       execution = [];
       valid = tt;
       built = tt;
-      words = stands;
+      words = holds;
       apart = λ i j c v w p q _ _.
           (only (first_view o) v i p).0 ∙ sym (only (first_view o) w j q).0;
       known = λ i u p _. subst (Knows o []) (only (first_view o) u i p).1 (record {

@@ -45,6 +45,7 @@ use Rattle.index_rule.specs.Hands.{IsHandOf, known, opening_of}
 use Rattle.index_rule.specs.Records.{IsRevivable, Revives, key_at}
 use Rattle.index_rule.specs.Records.{CanSee, MayRelease, change_by, or_zero, unlocked_word}
 use Rattle.index_rule.specs.Records.{value_of}
+use Rattle.index_rule.specs.Offsets.{offset_of_word}
 use Rattle.index_rule.specs.Rule.{Kept, Does, first_of, word_in}
 use Rattle.index_rule.specs.Steps.{says_removed, unlock_known, unlock_store}
 use Rattle.index_rule.specs.Steps.{key_load, lock_failed, lock_made, state_load, value_load}
@@ -288,7 +289,7 @@ module _ (o : Opening) (slots id : ℕ) (me : Me (Unit {0}) View) (c : ℕ)
       ∙ locked_on o c p newer me.0.known (subst (Valid o) (sym e) valid) out at v x y r f
 
   pub loads_state : (p a : ℕ) → CanSee o c p me.0.known → IsPlace (limits o) p →
-      a ≡ address_of (limits o) (PlaceWord p State) →
+      a ≡ offset_of_word (limits o) (PlaceWord p State) →
       Allows (Kept o) slots id me a (λ n. n) (λ n x. Does me (state_load (word_in me.0 a) n) x)
   loads_state p a can is_place at =
       by_name o slots id me c is live (PlaceWord p State) a (λ n. n) state_load is_place at
@@ -297,7 +298,7 @@ module _ (o : Opening) (slots id : ℕ) (me : Me (Unit {0}) View) (c : ℕ)
       (λ t valid newer e out. may_load_state o c p t valid (seen_now t newer p valid e out can)))
 
   pub loads_value : (p a : ℕ) → CanSee o c p me.0.known → IsPlace (limits o) p →
-      a ≡ address_of (limits o) (PlaceWord p Value) →
+      a ≡ offset_of_word (limits o) (PlaceWord p Value) →
       Allows (Kept o) slots id me a (λ n. n) (λ n x. Does me (value_load (word_in me.0 a) n) x)
   loads_value p a can is_place at =
       by_name o slots id me c is live (PlaceWord p Value) a (λ n. n) value_load is_place at
@@ -306,7 +307,7 @@ module _ (o : Opening) (slots id : ℕ) (me : Me (Unit {0}) View) (c : ℕ)
       (λ t valid newer e out. may_load_value o c p t valid (seen_now t newer p valid e out can)))
 
   pub loads_key : (p a : ℕ) → CanSee o c p me.0.known → IsPlace (limits o) p →
-      a ≡ address_of (limits o) (PlaceWord p Key) →
+      a ≡ offset_of_word (limits o) (PlaceWord p Key) →
       Allows (Kept o) slots id me a (λ n. n) (λ n x. Does me (key_load (word_in me.0 a) n) x)
   loads_key p a can is_place at =
       by_name o slots id me c is live (PlaceWord p Key) a (λ n. n) key_load is_place at
@@ -315,7 +316,7 @@ module _ (o : Opening) (slots id : ℕ) (me : Me (Unit {0}) View) (c : ℕ)
       (λ t valid newer e out. may_load_key o c p t valid (seen_now t newer p valid e out can)))
 
   pub locks : (p a x y : ℕ) → y ≡ x + 4 → IsAt o c p me.0.known → HoldsNoLock o c me.0.known → IsLockable x →
-      IsPlace (limits o) p → a ≡ address_of (limits o) (PlaceWord p State) →
+      IsPlace (limits o) p → a ≡ offset_of_word (limits o) (PlaceWord p State) →
       Allows (Kept o) slots id me a (λ n. either (n == x) y n)
       (λ n w. Does me (cond (n == x) (lock_made (word_in me.0 a) x)
       (lock_failed (word_in me.0 a) x n)) w)
@@ -332,7 +333,7 @@ module _ (o : Opening) (slots id : ℕ) (me : Me (Unit {0}) View) (c : ℕ)
       )))
 
   pub stores_value : (p a y : ℕ) → IsAt o c p me.0.known → IsLockedBy c (form o p me.0.known) →
-      IsPlace (limits o) p → a ≡ address_of (limits o) (PlaceWord p Value) →
+      IsPlace (limits o) p → a ≡ offset_of_word (limits o) (PlaceWord p Value) →
       Allows (Kept o) slots id me a (λ _. y)
       (λ _ x. Does me (value_store (word_in me.0 a) y) x)
   stores_value p a y at held is_place here =
@@ -355,7 +356,7 @@ module _ (o : Opening) (slots id : ℕ) (me : Me (Unit {0}) View) (c : ℕ)
 
   pub unlocks : (p a word : ℕ) (removed : Bool) → MayRelease o c p removed me.0.known →
       word ≡ unlocked_word o p removed me.0.known → IsPlace (limits o) p →
-      a ≡ address_of (limits o) (PlaceWord p State) →
+      a ≡ offset_of_word (limits o) (PlaceWord p State) →
       Allows (Kept o) slots id me a (λ _. word)
       (λ _ x. Does me (unlock_store me.0 (word_in me.0 a) word) x)
   unlocks p a word removed may stored is_place here =

@@ -7,7 +7,7 @@ use Rattle.std.specs.Prelude.{◌==◌}
 use Rattle.std.proofs.Math.Logic.{∥∥₁_elim}
 use Rattle.std.proofs.Props.{props}
 use Rattle.atomic_table.specs.Table.{Me, Allows}
-use Rattle.word_layout.specs.Words.{IsWord, Root, SlotGroup, address_of}
+use Rattle.word_layout.specs.Words.{IsWord, Root, SlotGroup}
 use Rattle.index_machine.specs.declared.events.Action.{Action}
 use Rattle.index_machine.specs.declared.events.Action.TheVariants.{Enter, Leave, LoadRoot}
 use Rattle.index_machine.specs.declared.events.Action.TheVariants.{LoadSlotGroup, StoreRoot}
@@ -26,6 +26,7 @@ use Rattle.index_rule.specs.declared.hand.Hand.{Hand}
 use Rattle.index_rule.specs.declared.view.View.{View}
 use Rattle.index_rule.specs.Hands.{IsHandOf, known, opening_of}
 use Rattle.index_rule.specs.Records.{CanReadSlot}
+use Rattle.index_rule.specs.Offsets.{offset_of_word}
 use Rattle.index_rule.specs.Rule.{Kept, Does, word_in}
 use Rattle.index_rule.specs.Steps.{slot_group_load}
 use Rattle.index_rule.proofs.StepKinds.{by_name, loads}
@@ -131,7 +132,7 @@ sees_on o c side i n t out can =
 module _ (o : Opening) (slots id : ℕ) (me : Me (Unit {0}) View) (c : ℕ)
     (is : me.0.numbers ≡ c ∷ []) (live : me.0.opening ≡ Some o) where
   pub loads_root : (a : ℕ) → IsReading o c me.0.known ⊎ IsKeeper o c →
-      a ≡ address_of (limits o) Root →
+      a ≡ offset_of_word (limits o) Root →
       Allows (Kept o) slots id me a (λ n. n) (λ n x. Does me (LoadRoot n) x)
   loads_root a may at =
       subst (λ (z : ℕ). Allows (Kept o) slots id me z (λ n. n) (λ n x. Does me (LoadRoot n) x))
@@ -148,7 +149,7 @@ module _ (o : Opening) (slots id : ℕ) (me : Me (Unit {0}) View) (c : ℕ)
       }))
 
   pub loads_slot_group : (side i a : ℕ) → CanReadSlot o c side i me.0.known →
-      IsWord (limits o) (SlotGroup side i) → a ≡ address_of (limits o) (SlotGroup side i) →
+      IsWord (limits o) (SlotGroup side i) → a ≡ offset_of_word (limits o) (SlotGroup side i) →
       Allows (Kept o) slots id me a (λ n. n)
       (λ n x. Does me (slot_group_load (word_in me.0 a) n) x)
   loads_slot_group side i a can is_word at =

@@ -1,17 +1,17 @@
 -- The kinds of step: a load, a store and an exchange that is tried once, at a word by its name.
-use Rattle.std.proofs.Common.{◌≡◌, ◌≢◌, ℕ, ◌<◌, Bool, true, false, cond, Some, None, ◌∷◌, [], ◌++◌}
+use Rattle.std.proofs.Common.{◌≡◌, ◌≢◌, ℕ, ◌<◌, ◌≤◌, Bool, true, false, cond, Some, None, ◌∷◌, [], ◌++◌}
 use Rattle.std.proofs.Common.{refl, sym, ap, ◌∙◌, subst, ◌==◌, eq-eqb, ne_eqb}
 use mathlib.Core.Logic.{dite}
 use native.Mathlib.Decide.{ℕ_discrete}
 use prog.Atomic.{either}
 use Rattle.atomic_table.specs.Table.{Me, Allows}
-use Rattle.word_layout.specs.Limits.{word_count}
 use Rattle.word_layout.specs.Layout.{limits_of}
 use Rattle.word_layout.specs.declared.layout.Layout.{Layout}
+use Rattle.word_layout.specs.declared.limits.Limits.{Limits}
 use Rattle.word_layout.specs.Words.{Word, IsWord, address_of, same_word}
 use Rattle.word_layout.specs.WordAt.{word_at}
 use Rattle.word_layout.proofs.SameWords.{same_word-true}
-use Rattle.word_layout.proofs.WordNames.{word_at-address_of, address_of-within}
+use Rattle.word_layout.proofs.WordNames.{word_at-address_of}
 use Rattle.index_machine.specs.declared.events.Action.{Action}
 use Rattle.index_machine.specs.declared.opening.Opening.{Opening}
 use Rattle.index_machine.specs.Execution.{Execution, Without}
@@ -22,26 +22,45 @@ use Rattle.index_rule.specs.declared.view.View.{View}
 use Rattle.index_rule.specs.declared.hand.Hand.{Hand}
 use Rattle.index_rule.specs.Hands.{IsHandOf, Makes, opening_of, view}
 use Rattle.index_rule.specs.Built.{IsBuilt}
+use Rattle.index_rule.specs.Offsets.{address_at, cold_from, offset_count, offset_of}
+use Rattle.index_rule.specs.Offsets.{offset_of_word}
 use Rattle.index_rule.specs.Rule.{Acts, Kept, Does, word_in, word_of_opening}
+use Rattle.index_rule.proofs.Offsets.{IsHot, address_at-offset_of, cold_behind}
+use Rattle.index_rule.proofs.Offsets.{offset_of_word-within}
 use Rattle.index_rule.proofs.Steps.{acts}
 
 -- ---- the words of a board ----
 
--- a word of the board's table lies within it
+-- a word of the board's table lies within its memory
 pub inside : (b : Board) (w : Word) (a : ℕ) → IsWord (limits (opening_of b)) w →
-    a ≡ address_of (limits_of b.layout) w → a < b.words.shared.table_id.words
+    a ≡ offset_of_word (limits_of b.layout) w → a < b.words.shared.table_id.words
 inside b w a is_word at =
     let known : IsWord (limits_of b.layout) w =
     subst (λ (l : Layout). IsWord (limits_of l) w) b.laid is_word
     in
-    let within = address_of-within (limits_of b.layout) w known in
+    let within = offset_of_word-within (limits_of b.layout) w known in
     subst (λ (n : ℕ). a < n) (sym b.wide)
-    (subst (λ (n : ℕ). n < word_count (limits_of b.layout)) (sym at) within)
+    (subst (λ (n : ℕ). n < offset_count (limits_of b.layout)) (sym at) within)
 
--- its address, by the limits that the board was opened with
-pub at_word : (b : Board) (w : Word) (a : ℕ) → a ≡ address_of (limits_of b.layout) w →
-    a ≡ address_of (limits (opening_of b)) w
-at_word b w a at = at ∙ ap (λ (l : Layout). address_of (limits_of l) w) (sym b.laid)
+-- its offset, by the limits that the board was opened with
+pub at_word : (b : Board) (w : Word) (a : ℕ) → a ≡ offset_of_word (limits_of b.layout) w →
+    a ≡ offset_of_word (limits (opening_of b)) w
+at_word b w a at = at ∙ ap (λ (l : Layout). offset_of_word (limits_of l) w) (sym b.laid)
+
+-- a word that is not hot stands behind those that are
+pub cold : (b : Board) (w : Word) (address : ℕ) → IsWord (limits (opening_of b)) w →
+    (IsHot w → ⊥) →
+    address ≡ address_of (limits_of b.layout) w → cold_from (limits_of b.layout) ≤ address
+cold b w address is_word not_hot at =
+    let l = limits_of b.layout in
+    let known : IsWord l w = subst (λ (l : Layout). IsWord (limits_of l) w) b.laid is_word in
+    subst (λ (n : ℕ). cold_from l ≤ n) (sym at) (cold_behind l w known not_hot)
+
+-- the offset of a word's address is the word's
+pub at_address : (b : Board) (w : Word) (a address : ℕ) →
+    a ≡ offset_of (limits_of b.layout) address → address ≡ address_of (limits_of b.layout) w →
+    a ≡ offset_of_word (limits_of b.layout) w
+at_address b w a address at is = at ∙ ap (offset_of (limits_of b.layout)) is
 
 -- ---- what a step at a word stores ----
 
@@ -55,12 +74,18 @@ nothing : (o : Opening) (t : Execution) (c : ℕ) (d : Action) (w u : Word) → 
     stored (store_of c d) u (word o t u) ≡ cond (same_word w u) (word o t w) (word o t u)
 nothing o t c d w u none = rw none (unchanged o t w u (same_word w u) refl)
 
+-- the word that stands at a word's offset is that word
+word_at-offset : (l : Limits) (w : Word) → IsWord l w →
+    word_at l (address_at l (offset_of_word l w)) ≡ w
+word_at-offset l w is_word =
+    ap (word_at l) (address_at-offset_of l (address_of l w)) ∙ word_at-address_of l w is_word
+
 module _ (o : Opening) (slots id : ℕ) (me : Me (Unit {0}) View) (c : ℕ)
     (is : me.0.numbers ≡ c ∷ []) (live : me.0.opening ≡ Some o) where
   -- the step is made at the word w, and tells of this action
   abbrev pub Tells : Word → (ℕ → ℕ) → (ℕ → Action) → Type 0
   Tells w f d =
-      Allows (Kept o) slots id me (address_of (limits o) w) f (λ n x. Does me (d n) x)
+      Allows (Kept o) slots id me (offset_of_word (limits o) w) f (λ n x. Does me (d n) x)
 
   -- what holds at every execution in which the hand makes its step
   abbrev pub Whenever : (Execution → Type 0) → Type 0
@@ -103,15 +128,15 @@ module _ (o : Opening) (slots id : ℕ) (me : Me (Unit {0}) View) (c : ℕ)
       rw (ne_eqb n x ne)
       ((both.1 (λ z. ne (sym z)), built_too n, λ u. nothing o t c (e n) w u (none n)))))
 
-  -- the name of the word at its address
-  pub named : (w : Word) → IsWord (limits o) w → word_in me.0 (address_of (limits o) w) ≡ w
+  -- the name of the word at its offset
+  pub named : (w : Word) → IsWord (limits o) w → word_in me.0 (offset_of_word (limits o) w) ≡ w
   named w is_word =
-      ap (λ z. word_of_opening z (address_of (limits o) w)) live
-      ∙ word_at-address_of (limits o) w is_word
+      ap (λ z. word_of_opening z (offset_of_word (limits o) w)) live
+      ∙ word_at-offset (limits o) w is_word
 
-  -- a step that tells its action by the word at its address
+  -- a step that tells its action by the word at its offset
   pub by_name : (w : Word) (a : ℕ) (f : ℕ → ℕ) (d : Word → ℕ → Action) → IsWord (limits o) w →
-      a ≡ address_of (limits o) w → Tells w f (d w) →
+      a ≡ offset_of_word (limits o) w → Tells w f (d w) →
       Allows (Kept o) slots id me a f (λ n x. Does me (d (word_in me.0 a) n) x)
   by_name w a f d is_word at tells =
       subst (λ (z : ℕ). Allows (Kept o) slots id me z f (λ n x. Does me (d (word_in me.0 z) n) x))
@@ -120,14 +145,15 @@ module _ (o : Opening) (slots id : ℕ) (me : Me (Unit {0}) View) (c : ℕ)
 
 -- ---- what a step told its hand ----
 
--- the name of a word at its address, in the table of a hand
+-- the name of a word at its offset, in the table of a hand
 pub named_in : (b : Board) (h : Hand) (w : Word) (a : ℕ) → IsHandOf b h →
-    IsWord (limits (opening_of b)) w → a ≡ address_of (limits_of b.layout) w →
+    IsWord (limits (opening_of b)) w → a ≡ offset_of_word (limits_of b.layout) w →
     word_in (view h) a ≡ w
 named_in b h w a of is_word at =
+    let l = limits (opening_of b) in
     ap (λ z. word_of_opening z a) of.opened
-    ∙ (ap (word_at (limits (opening_of b))) (at_word b w a at)
-    ∙ word_at-address_of (limits (opening_of b)) w is_word)
+    ∙ (ap (λ (z : ℕ). word_at l (address_at l z)) (at_word b w a at)
+    ∙ word_at-offset l w is_word)
 
 -- the hand stays one of the board and keeps its number
 pub makes : (b : Board) (h k : Hand) (d : Action) → IsHandOf b h →

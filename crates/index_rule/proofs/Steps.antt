@@ -9,9 +9,8 @@ use Rattle.std.proofs.lemmas.Grind.{merely}
 use Rattle.std.proofs.lemmas.List.{set-get_or}
 use Rattle.atomic_table.specs.Table.{State, Me, keeps, Allows}
 use Rattle.atomic_table.proofs.Lists.{at_set}
-use Rattle.word_layout.specs.Words.{Word, IsWord, address_of, word_named, same_word}
+use Rattle.word_layout.specs.Words.{Word, IsWord, same_word}
 use Rattle.word_layout.proofs.SameWords.{same_word-refl, same_word-true}
-use Rattle.word_layout.proofs.WordNames.{stores_by_name}
 use Rattle.index_machine.specs.declared.events.Action.{Action}
 use Rattle.index_machine.specs.declared.events.Event.{Event}
 use Rattle.index_machine.specs.declared.opening.Opening.{Opening}
@@ -22,12 +21,13 @@ use Rattle.index_machine.specs.Sections.{crossings, crossings_after}
 use Rattle.index_machine.specs.Conditions.{Allowed, Valid}
 use Rattle.index_machine.proofs.Executions.{crossings_on, valid_before}
 use Rattle.index_rule.specs.declared.view.View.{View}
-use Rattle.opened_table.specs.Laying.{StandsFor}
+use Rattle.index_rule.specs.Offsets.{HoldsWords, offset_of_word}
 use Rattle.index_rule.specs.Rule.{Owns, GoesOn, Knows, AreApart}
 use Rattle.index_rule.specs.Rule.{Kept, Acts, Does, number, first_of, stepped, HasLog, Follows}
 use Rattle.index_rule.specs.Rule.{log_after, logged}
 use Rattle.index_rule.specs.Built.{IsBuilt, AreBuilt}
 use Rattle.index_rule.proofs.Logging.{built_before, log_on, log_more}
+use Rattle.index_rule.proofs.Offsets.{kept_at, stored_at}
 use Rattle.map_model.specs.Logs.{Log, IsLogOf}
 use Rattle.index_machine.specs.Openings.{opening_map}
 use Rattle.index_machine.specs.LivePlaces.{history}
@@ -95,7 +95,7 @@ kept_with o s id a v w r at sub knows =
       execution = r.execution;
       valid = r.valid;
       built = r.built;
-      words = subst (λ (z : List ℕ). StandsFor o z r.execution) (sym (set-get_or s.words a 0))
+      words = subst (λ (z : List ℕ). HoldsWords o z r.execution) (sym (set-get_or s.words a 0))
           r.words;
       apart = apart_set s.views id v w r.apart at sub;
       known = λ i u p q. ⊎_elim (λ (b : (i ≡ id) × (w ≡ u)). subst (Knows o r.execution) b.1 knows)
@@ -105,33 +105,32 @@ kept_with o s id a v w r at sub knows =
 
 -- ---- the words ----
 
--- the list of words stands for the execution with its new event
-stands_more : (o : Opening) (words : List ℕ) (t : Execution) (c : ℕ) (d : Action) (w : Word)
-    (x : ℕ) → IsWord (limits o) w → StandsFor o words t →
+-- the memory holds the words of the execution with its new event
+holds_more : (o : Opening) (memory : List ℕ) (t : Execution) (c : ℕ) (d : Action) (w : Word)
+    (x : ℕ) → IsWord (limits o) w → HoldsWords o memory t →
     ((u : Word) → stored (store_of c d) u (word o t u) ≡ cond (same_word w u) x (word o t u)) →
-    StandsFor o (slice_set words (address_of (limits o) w) x) (event c d ∷ t)
-stands_more o words t c d w x is_word old stores =
+    HoldsWords o (slice_set memory (offset_of_word (limits o) w) x) (event c d ∷ t)
+holds_more o memory t c d w x is_word old stores =
     record {
-      wide = length-set words (address_of (limits o) w) x ∙ old.wide;
-      named = λ u is. by_test u is (same_word w u) refl;
+      wide = length-set memory (offset_of_word (limits o) w) x ∙ old.wide;
+      each = λ u is. by_test u is (same_word w u) refl;
     }
   where
     by_test : (u : Word) → IsWord (limits o) u → (b : Bool) → same_word w u ≡ b →
-        word_named (limits o) (slice_set words (address_of (limits o) w) x) u
+        slice_index (slice_set memory (offset_of_word (limits o) w) x) (offset_of_word (limits o) u)
         ≡ stored (store_of c d) u (word o t u)
     by_test u is true e =
+        let after : List ℕ = slice_set memory (offset_of_word (limits o) w) x in
         let same : w ≡ u = same_word-true w u e in
-        let here : word_named (limits o) (slice_set words (address_of (limits o) w) x) w ≡ x =
-        (stores_by_name (limits o)).stored words w x old.wide is_word
-        in
-        ap (word_named (limits o) (slice_set words (address_of (limits o) w) x)) (sym same)
-        ∙ (here ∙ sym (stores u ∙ ap (λ (z : Bool). cond z x (word o t u)) e))
+        ap (λ (z : Word). slice_index after (offset_of_word (limits o) z)) (sym same)
+        ∙ (stored_at (limits o) memory w x old.wide is_word
+        ∙ sym (stores u ∙ ap (λ (z : Bool). cond z x (word o t u)) e))
     by_test u is false e =
         let differ : w ≢ u =
         λ same. let z : true ≡ false = sym (same_word-refl w) ∙ (ap (same_word w) same ∙ e) in cc
         in
-        (stores_by_name (limits o)).kept words w u x is_word is differ
-        ∙ (old.named u is ∙ sym (stores u ∙ ap (λ (z : Bool). cond z x (word o t u)) e))
+        kept_at (limits o) memory w u x is_word is differ
+        ∙ (old.each u is ∙ sym (stores u ∙ ap (λ (z : Bool). cond z x (word o t u)) e))
 
 -- ---- any step ----
 
@@ -234,7 +233,7 @@ locked_stepped v d newer c x is out valid old = record {
 pub acts : (o : Opening) (slots id : ℕ) (me : Me (Unit {0}) View) (c : ℕ) (w : Word)
     (f : ℕ → ℕ) (d : ℕ → Action) → IsWord (limits o) w → me.0.numbers ≡ c ∷ [] →
     me.0.opening ≡ Some o → Owes o c me.0 w f d →
-    Allows (Kept o) slots id me (address_of (limits o) w) f (λ n x. Does me (d n) x)
+    Allows (Kept o) slots id me (offset_of_word (limits o) w) f (λ n x. Does me (d n) x)
 acts o slots id me c w f d is_word is live owes s r _ at _ =
     let v : View = me.0 in
     let k = r.known id v at (is_some v.opening o live) in
@@ -245,8 +244,8 @@ acts o slots id me c w f d is_word is live owes s r _ at _ =
     let out : Without c newer = k.goes_on.2 c mine in
     let own = owes t r.valid newer whole out in
     let me_is : number v ≡ c = ap first_of is in
-    let a : ℕ = address_of (limits o) w in
-    let found : slice_index s.words a ≡ word o t w = r.words.named w is_word in
+    let a : ℕ = offset_of_word (limits o) w in
+    let found : slice_index s.words a ≡ word o t w = r.words.each w is_word in
     let here : Action = d (word o t w) in
     let named : event (number v) here ∷ newer ++ v.known ≡ event c here ∷ t =
     ap (λ (z : ℕ × Execution). event z.0 here ∷ z.1) (λ i. (me_is i, whole i))
@@ -271,7 +270,7 @@ acts o slots id me c w f d is_word is live owes s r _ at _ =
       execution = event c here ∷ t;
       valid = longer;
       built = (own.1, r.built);
-      words = stands_more o s.words t c here w (f (word o t w)) is_word r.words own.2;
+      words = holds_more o s.words t c here w (f (word o t w)) is_word r.words own.2;
       apart = apart_set s.views id v after r.apart at (λ _ h. h);
       known = known_set o t here s.views id v after c after.log mine r.apart at k
           (ap (λ (z : Execution). record v { known = z; heard = []; log = after.log }) named) has

@@ -3,12 +3,15 @@ use Rattle.std.specs.Prelude.{◌≡◌, ◌≢◌, ◌⊎◌, ℕ, ◌<◌, fal
 use Rattle.map_model.specs.declared.entries.Change.{Change}
 use Rattle.map_model.specs.declared.entries.Change.TheVariants.{Put}
 use Rattle.map_model.specs.Map.{look}
+use Rattle.word_layout.specs.declared.headers.HeaderWord.{HeaderWord}
+use Rattle.word_layout.specs.declared.headers.HeaderWord.TheVariants as header
 use Rattle.word_layout.specs.declared.places.Part.TheVariants as part
 use Rattle.word_layout.specs.Words.{PlaceWord}
 use Rattle.index_machine.specs.declared.events.Action.TheVariants.{LinkRow, FailLink}
 use Rattle.index_machine.specs.declared.opening.Opening.{Opening}
 use Rattle.index_machine.specs.Execution.{Execution, Without}
 use Rattle.index_machine.specs.Words.{word}
+use Rattle.index_machine.specs.Lanes.{HasLane, begun_word, lanes}
 use Rattle.index_machine.specs.Sections.{IsKeeper, IsReading}
 use Rattle.index_machine.specs.Rows.{InBuffer, Holds, role}
 use Rattle.index_machine.specs.Forms.{Unlocked, state_word}
@@ -40,6 +43,18 @@ CanWalk o hand group t =
 -- the place is a row of the buffer, for some key
 abbrev pub IsRowOf : Opening → ℕ → ℕ → Execution → Type 0
 IsRowOf o group place t = (k : ℕ) × (role o place t ≡ InBuffer group k)
+
+-- the header word is one of those that say which lanes the group's buffer has: their number, or the cut
+-- of one
+abbrev pub IsLaneHeader : Opening → ℕ → HeaderWord → Execution → Type 0
+IsLaneHeader o group header.Lanes t = Unit {0}
+IsLaneHeader o group (header.Cut lane) t = lane < lanes o group t
+IsLaneHeader o group _ t = ⊥
+
+-- the word says what the group was begun with, and still does when the hand knows more
+abbrev pub TellsBegun : Opening → ℕ → HeaderWord → ℕ → Execution → Execution → Type 0
+TellsBegun o group which found t later =
+    (begun_word o group which t ≡ found) × (begun_word o group which later ≡ found)
 
 -- the phase word of the group can be loaded, and says its phase
 pub record CanSeePhase (o : Opening) (hand group : ℕ) (t : Execution) : Type 0 where
@@ -77,23 +92,26 @@ BelongsWhileAbsent o hand group k t =
     look (rows group (newer ++ t)) k ≡ None →
     IsNewKeyFor o k group (newer ++ t)
 
--- the caller may link its filled row between these two places, with an insert permission
-pub record MayInsertRow (o : Opening) (hand group place before next : ℕ) (t : Execution)
+-- the caller may link its filled row between these two places, in the lane of its key, with an insert
+-- permission
+pub record MayInsertRow (o : Opening) (hand group lane place before next : ℕ) (t : Execution)
     : Type 0 where
   pub reading : IsReading o hand t
   pub stands : stands_in hand group t ≡ true
   pub walkable : IsWalkable o group t
   pub permission : MayInsertInto hand group t
   pub filled : IsFilled o hand place next t
-  pub behind : IsLinkBefore o group (key_in o place t) before t
+  pub in_lane : HasLane o group lane (key_in o place t) t
+  pub behind : IsLinkBefore o group lane (key_in o place t) before t
   pub ahead : IsBehindKey o group (key_in o place t) next t
   pub belongs : BelongsWhileAbsent o hand group (key_in o place t) t
 
 -- the row was linked, or the link led elsewhere by then and the row is handed back
-abbrev pub Links : Board → Hand → ℕ → ℕ → ℕ → ℕ → Linked → Hand → Type 0
-Links b h group place before expected Done k =
+abbrev pub Links : Board → Hand → ℕ → ℕ → ℕ → ℕ → ℕ → Linked → Hand → Type 0
+Links b h group lane place before expected Done k =
     Makes b h
-    (LinkRow group place (inserted_by (opening_of b) h.number place (known h)) before expected) k
-Links b h group place before expected (Raced row found) k =
-    (place_of_private row ≡ place) × Makes b h (FailLink group before expected found) k
+    (LinkRow group lane place (inserted_by (opening_of b) h.number place (known h)) before expected)
+    k
+Links b h group lane place before expected (Raced row found) k =
+    (place_of_private row ≡ place) × Makes b h (FailLink group lane before expected found) k
     × (expected ≢ found)

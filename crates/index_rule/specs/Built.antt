@@ -2,7 +2,7 @@
 -- none of these was made: nothing is rebuilt.
 use Rattle.std.specs.Prelude.{[], ◌∷◌}
 use Rattle.index_machine.specs.declared.events.Action.{Action}
-use Rattle.index_machine.specs.declared.events.Action.TheVariants.{Retire, LoadHeader, LoadNext}
+use Rattle.index_machine.specs.declared.events.Action.TheVariants.{Retire, LoadNext}
 use Rattle.index_machine.specs.declared.events.Action.TheVariants.{Freeze, Thaw, StoreHeader}
 use Rattle.index_machine.specs.declared.events.Action.TheVariants.{NewGroup, StoreArray}
 use Rattle.index_machine.specs.declared.events.Action.TheVariants.{StoreRedirect, StoreOpened}
@@ -15,7 +15,6 @@ use Rattle.index_machine.specs.Execution.{Execution}
 -- the board has a call for this kind of step: it is none of those that wait for one
 abbrev pub IsBuilt : Action → Type 0
 IsBuilt (Retire place next) = ⊥
-IsBuilt (LoadHeader group part found) = ⊥
 IsBuilt (LoadNext group found) = ⊥
 IsBuilt (Freeze group) = ⊥
 IsBuilt (Thaw group) = ⊥

@@ -12,6 +12,7 @@ use Rattle.index_rule.specs.declared.view.Heard.{Heard}
 use Rattle.index_rule.specs.Built.{AreBuilt}
 use Rattle.index_rule.specs.Hands.{IsHandOf, opening_of, known, view}
 use Rattle.opened_table.specs.Laying.{StandsFor}
+use Rattle.index_rule.specs.Offsets.{HoldsWords}
 use Rattle.index_rule.specs.Rule.{Owns}
 use Rattle.index_rule.specs.Seats.{heard_of}
 
@@ -42,6 +43,14 @@ pub record Leaves (o : Opening) (hands : List Hand) (words : List ℕ) : Type 0 
   pub built : AreBuilt execution
   pub ends : EndsFor hands execution
   pub left : StandsFor o words execution
+
+-- likewise, where the words stand in memory
+pub record LeavesInMemory (o : Opening) (hands : List Hand) (memory : List ℕ) : Type 0 where
+  pub execution : Execution
+  pub valid : Valid o execution
+  pub built : AreBuilt execution
+  pub ends : EndsFor hands execution
+  pub held : HoldsWords o memory execution
 
 -- ---- hands that are joined one by one ----
 

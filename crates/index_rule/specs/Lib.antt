@@ -1,5 +1,6 @@
 pub mod Built
 pub mod BuiltLaws
+pub mod Offsets
 pub mod Rule
 pub mod Steps
 pub mod Hands

@@ -15,16 +15,16 @@ use Rattle.index_machine.specs.declared.events.Action.TheVariants.{Unlock, LinkR
 use Rattle.index_machine.specs.declared.opening.Opening.{Opening}
 use Rattle.index_machine.specs.Execution.{Execution, event, Without}
 use Rattle.index_machine.specs.Lists.{In, AreDistinct}
-use Rattle.index_machine.specs.Words.{limits, word}
+use Rattle.index_machine.specs.Words.{limits}
 use Rattle.index_machine.specs.Sections.{IsCaller, IsHand, crossings, crossings_after}
 use Rattle.index_machine.specs.Openings.{opening_map}
 use Rattle.index_machine.specs.LivePlaces.{history, value_in_map}
 use Rattle.index_machine.specs.Conditions.{Valid}
-use Rattle.opened_table.specs.Laying.{StandsFor}
 use Rattle.index_rule.specs.Built.{AreBuilt}
 use Rattle.index_rule.specs.declared.view.View.{View}
 use Rattle.index_rule.specs.declared.view.Heard.{Heard}
 use Rattle.index_rule.specs.LockWords.{IsLockedWord, locked_word_after}
+use Rattle.index_rule.specs.Offsets.{HoldsWords, address_at}
 
 -- ---- what a seat knows ----
 
@@ -83,7 +83,7 @@ pub record Kept (o : Opening) (s : State (Unit {0}) View) : Type 0 where
   pub execution : Execution
   pub valid : Valid o execution
   pub built : AreBuilt execution
-  pub words : StandsFor o s.words execution
+  pub words : HoldsWords o s.words execution
   pub apart : AreApart s.views
   pub known : (id : ℕ) (v : View) → get_elem? s.views id ≡ some v → v.opening ≢ None →
       Knows o execution v
@@ -111,7 +111,7 @@ first_view o =
 abbrev pub log_after : Opening → Execution → Action → Log → Log
 log_after o t (Unlock place removed change stored) log =
     Made (length (history t)) change (value_in_map o (key_of change) t) ∷ log
-log_after o t (LinkRow group place change before next) log =
+log_after o t (LinkRow group lane place change before next) log =
     Made (length (history t)) change (value_in_map o (key_of change) t) ∷ log
 log_after o t _ log = log
 
@@ -129,14 +129,14 @@ first_of (hand ∷ hands) = hand
 abbrev pub number : View → ℕ
 number v = first_of v.numbers
 
--- the word at an address of a table that was opened so
+-- the word so far from the front of the memory of a table that was opened so
 abbrev pub word_of_opening : Option Opening → ℕ → Word
-word_of_opening None address = FreeHead
-word_of_opening (Some o) address = word_at (limits o) address
+word_of_opening None offset = FreeHead
+word_of_opening (Some o) offset = word_at (limits o) (address_at (limits o) offset)
 
--- the word at an address of the seat's table
+-- the word so far from the front of the memory of the seat's table
 abbrev pub word_in : View → ℕ → Word
-word_in v address = word_of_opening v.opening address
+word_in v offset = word_of_opening v.opening offset
 
 -- the view of a hand that has made this action after these events of others
 abbrev pub stepped : View → Action → Execution → View

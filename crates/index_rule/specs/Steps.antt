@@ -1,6 +1,7 @@
 -- The action of a step, by the word that it loaded or stored. A step is made only at words of the
 -- one form that is named.
-use Rattle.std.specs.Prelude.{ℕ, ◌%◌, ◌==◌, Bool, Option, Some, None}
+use Rattle.std.specs.Prelude.{ℕ, zero, suc, ◌-◌, ◌%◌, ◌==◌, nat_lt, cond, Bool, Option, Some, None}
+use Rattle.word_layout.specs.declared.headers.HeaderWord.TheVariants as header
 use Rattle.word_layout.specs.Words.{Word, Epoch, SlotGroup, Header, PlaceWord}
 use Rattle.index_machine.specs.declared.events.Action.{Action}
 use Rattle.index_machine.specs.declared.events.Action.TheVariants.{LoadEpoch, LoadFree}
@@ -8,10 +9,11 @@ use Rattle.index_machine.specs.declared.events.Action.TheVariants.{LoadFreeLink,
 use Rattle.index_machine.specs.declared.events.Action.TheVariants.{LoadState, LoadValue, Lock}
 use Rattle.index_machine.specs.declared.events.Action.TheVariants.{FailLock, StoreValue, Unlock}
 use Rattle.index_machine.specs.declared.events.Action.TheVariants.{LoadSlotGroup, LoadKey}
-use Rattle.index_machine.specs.declared.events.Action.TheVariants.{LoadHead, LoadLink, LoadPhase}
+use Rattle.index_machine.specs.declared.events.Action.TheVariants.{LoadHead, LoadHeader, LoadLink, LoadPhase}
 use Rattle.index_machine.specs.declared.events.Action.TheVariants.{LinkRow, FailLink}
 use Rattle.index_machine.specs.declared.opening.Opening.{Opening}
 use Rattle.index_machine.specs.Execution.{Execution}
+use Rattle.index_machine.specs.Lanes.{cut, lanes}
 use Rattle.index_machine.specs.Rows.{Role, Unused, HeldBy, InArray, InBuffer, role}
 use Rattle.index_rule.specs.declared.view.View.{View}
 use Rattle.index_rule.specs.Buffers.{inserted_by}
@@ -87,10 +89,15 @@ unlock_store v _ n = LoadFree n
 
 -- ---- steps on a buffer ----
 
--- a buffer's head was loaded
+-- the head of a lane was loaded
 abbrev pub head_load : Word → ℕ → Action
-head_load (Header group which) n = LoadHead group n
+head_load (Header group (header.Head lane)) n = LoadHead group lane n
 head_load _ n = LoadFree n
+
+-- a header word was loaded
+abbrev pub header_load : Word → ℕ → Action
+header_load (Header group which) n = LoadHeader group which n
+header_load _ n = LoadFree n
 
 -- a phase word was loaded
 abbrev pub phase_load : Word → ℕ → Action
@@ -115,6 +122,34 @@ link_group v (Header group which) = group
 link_group v (PlaceWord place part) = buffer_known v.opening place v.known
 link_group v _ = 0
 
+-- the last lane, of so many behind the first one, whose cut is not above the key; else the first one
+abbrev pub lane_among : Opening → ℕ → ℕ → Execution → ℕ → ℕ
+lane_among o group k t zero = 0
+lane_among o group k t (suc n) =
+    cond (nat_lt k (cut o group (suc n) t)) (lane_among o group k t n) (suc n)
+
+-- the lane of a key
+abbrev pub lane_of_key : Opening → ℕ → ℕ → Execution → ℕ
+lane_of_key o group k t = lane_among o group k t (lanes o group t - 1)
+
+-- the lane of a row, by what its place is
+abbrev pub lane_of_role : Opening → Role → Execution → ℕ
+lane_of_role o Unused t = 0
+lane_of_role o (HeldBy hand) t = 0
+lane_of_role o (InArray group k) t = 0
+lane_of_role o (InBuffer group k) t = lane_of_key o group k t
+
+-- the lane in which a place is by what is known
+abbrev pub lane_known : Option Opening → ℕ → Execution → ℕ
+lane_known None place t = 0
+lane_known (Some o) place t = lane_of_role o (role o place t) t
+
+-- the lane in which the link at a word is: of the head, or of a row
+abbrev pub link_lane : View → Word → ℕ
+link_lane v (Header group (header.Head lane)) = lane
+link_lane v (PlaceWord place part) = lane_known v.opening place v.known
+link_lane v _ = 0
+
 -- the row whose link is at a word, or 0 for the head
 abbrev pub link_place : Word → ℕ
 link_place (PlaceWord place part) = place
@@ -125,16 +160,16 @@ abbrev pub row_link_load : View → Word → ℕ → Action
 row_link_load v w n = LoadLink (link_group v w) (link_place w) n
 
 -- the link of a row by a hand that knows this
-abbrev pub link_known : Option Opening → View → ℕ → ℕ → ℕ → ℕ → Action
-link_known None v group place before expected = LoadFree expected
-link_known (Some o) v group place before expected =
-    LinkRow group place (inserted_by o (number v) place v.known) before expected
+abbrev pub link_known : Option Opening → View → ℕ → ℕ → ℕ → ℕ → ℕ → Action
+link_known None v group lane place before expected = LoadFree expected
+link_known (Some o) v group lane place before expected =
+    LinkRow group lane place (inserted_by o (number v) place v.known) before expected
 
 -- the link at a word was exchanged: it leads to this row
 abbrev pub link_made : View → Word → ℕ → ℕ → Action
 link_made v w expected place =
-    link_known v.opening v (link_group v w) place (link_place w) expected
+    link_known v.opening v (link_group v w) (link_lane v w) place (link_place w) expected
 
 -- another link was found than the expected one
 abbrev pub link_failed : View → Word → ℕ → ℕ → Action
-link_failed v w expected n = FailLink (link_group v w) (link_place w) expected n
+link_failed v w expected n = FailLink (link_group v w) (link_lane v w) (link_place w) expected n

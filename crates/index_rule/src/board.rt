@@ -1,7 +1,7 @@
 //! The board: the table of words that all threads share, and the calls that step on it.
 ghost use Rattle.std.specs.Prelude.{◌≡◌};
-ghost use Rattle.word_layout.specs.Limits.{word_count};
 ghost use Rattle.word_layout.specs.Layout.{limits_of};
+ghost use Rattle.index_rule.specs.Offsets.{offset_count, shift_of};
 
 use crate::rule::Words;
 use word_layout::Layout;
@@ -11,6 +11,7 @@ mod closing;
 mod epochs;
 mod free_stack;
 mod looking;
+mod offsets;
 mod opening;
 mod records;
 mod root;
@@ -22,7 +23,10 @@ mod telling;
 pub struct Board {
     pub(crate) words: Words,
     pub(crate) layout: Layout,
+    // How much further behind than its address a word stands in memory that is not hot.
+    pub(crate) shift: usize,
     ghost laid: { words.shared.key.layout ≡ layout },
-    ghost wide: { words.shared.table_id.words ≡ word_count (limits_of layout) },
+    ghost wide: { words.shared.table_id.words ≡ offset_count (limits_of layout) },
+    ghost shifted: { shift ≡ shift_of (limits_of layout) },
     ghost slotless: { words.shared.table_id.slots ≡ 0 },
 }

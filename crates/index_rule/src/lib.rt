@@ -9,6 +9,7 @@ mod board;
 mod hand;
 mod laws;
 mod looks;
+mod memory;
 mod note;
 mod own_rows;
 mod plays;
@@ -24,6 +25,7 @@ pub use laws::{
     no_place_forwards_yet, root_is_as_opened, rows_are_in_their_group,
 };
 pub use looks::Sight;
+pub use memory::offset_of;
 pub use note::Note;
 pub use own_rows::OwnRow;
 pub use rows::{PrivateRow, RetiredRow};

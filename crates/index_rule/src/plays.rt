@@ -8,7 +8,7 @@ ghost use Rattle.index_rule.specs.Rule.{Does, word_in};
 ghost use Rattle.index_rule.specs.Steps.{epoch_load, link_load, private_store};
 ghost use Rattle.index_rule.specs.Steps.{slot_group_load, state_load, value_load};
 ghost use Rattle.index_rule.specs.Steps.{lock_made, lock_failed, value_store, unlock_store};
-ghost use Rattle.index_rule.specs.Steps.{key_load, head_load, phase_load, row_link_load};
+ghost use Rattle.index_rule.specs.Steps.{key_load, head_load, header_load, phase_load, row_link_load};
 ghost use Rattle.index_rule.specs.Steps.{link_made, link_failed};
 
 use crate::looks::Sight;
@@ -127,6 +127,12 @@ pub struct LoadsRowLink;
 
 impl Play<(), View> for LoadsRowLink {
     ghost then = { λ st me n w. Does me (row_link_load me.0 (word_in me.0 st.word) n) w };
+}
+
+pub struct LoadsHeader;
+
+impl Play<(), View> for LoadsHeader {
+    ghost then = { λ st me n w. Does me (header_load (word_in me.0 st.word) n) w };
 }
 
 pub struct LoadsPhase;

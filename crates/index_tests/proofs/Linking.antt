@@ -1,25 +1,22 @@
--- How a caller comes to group 0 with a row of its own, and to a gap.
-use Rattle.std.proofs.Common.{◌≡◌, ℕ, true, false, Bool, cond, [], ◌++◌, inl}
+-- How a caller comes to group 0 with a row of its own, and to a gap in the lane of the row's key.
+use Rattle.std.proofs.Common.{◌≡◌, ℕ, ◌≤◌, true, false, Bool, cond, [], ◌++◌, inl}
 use Rattle.std.proofs.Common.{refl, sym, ap, ◌∙◌, subst, arith, eq-eqb}
 use Rattle.std.specs.Prelude.{◌==◌, ◌&&◌}
-use Rattle.map_model.specs.Map.{Map}
 use Rattle.word_layout.specs.declared.phase.Phase.TheVariants.{Open}
 use Rattle.word_layout.specs.declared.places.Part.TheVariants.{Key, Link}
-use Rattle.word_layout.specs.Layout.{limits_of}
 use Rattle.word_layout.specs.Phase.{word_of_phase}
 use Rattle.word_layout.specs.Words.{PlaceWord}
 use Rattle.index_machine.specs.declared.events.Action.TheVariants.{LoadPhase, LoadRoot}
 use Rattle.index_machine.specs.declared.events.Action.TheVariants.{LoadSlotGroup}
-use Rattle.index_machine.specs.declared.opening.Opening.{Opening}
 use Rattle.index_machine.specs.Conditions.{Valid}
 use Rattle.index_machine.specs.Execution.{Execution}
-use Rattle.index_machine.specs.KeyRanges.{group_of}
-use Rattle.index_machine.specs.OpeningRows.{row_from}
-use Rattle.index_machine.specs.Reaching.{saw_open, saw_open_after, stands_in}
-use Rattle.index_machine.specs.Rows.{InArray, Unused, opening_role, role_of_row}
-use Rattle.index_machine.specs.Words.{word}
+use Rattle.index_machine.specs.Openings.{greatest_key}
+use Rattle.index_machine.specs.Reaching.{saw_open, saw_open_after}
+use Rattle.index_machine.specs.Words.{limits, word}
 use Rattle.index_machine.proofs.Executions.{own_step}
-use Rattle.machine_buffers.proofs.Walks.{of_keys, true_of_keys}
+use Rattle.index_machine.proofs.OpeningRows.{opening_role-array, opening_row-live, row_of_place}
+use Rattle.index_machine.proofs.Options.{none_some}
+use Rattle.machine_buffers.proofs.Walks.{true_of_keys}
 use Rattle.machine_readers.proofs.ReadSections.{saw_open_on}
 use Rattle.machine_readers.specs.Readers.{ArrayHasNone}
 use Rattle.index_rule.specs.declared.board.Board.{Board}
@@ -28,79 +25,85 @@ use Rattle.index_rule.specs.Built.{AreBuilt}
 use Rattle.index_rule.specs.Buffers.{CanSeePhase, IsFilled}
 use Rattle.index_rule.specs.Hands.{Makes, known, opening_of}
 use Rattle.index_rule.proofs.BuiltLaws.{arrays_as_opened, groups_as_opened}
-use Rattle.index_rule.proofs.RecordStepping.{now, still_inside, still_stands}
+use Rattle.index_rule.proofs.RecordStepping.{now}
 use Rattle.index_rule.proofs.RootStepping.{built_moment}
-use Rattle.index_rule.proofs.Stepping.{built_known, still_holds_no_lock, valid_after, valid_known}
+use Rattle.index_rule.proofs.Stepping.{built_known, valid_after, valid_known}
 use Rattle.index_rule.proofs.Elsewhere.{KnowsNoneElsewhere, elsewhere_now, elsewhere_on}
 use Rattle.row_arena.specs.Taking.{Fills}
-use Rattle.delta_buffer.specs.Inserting.{BelongsUntilLinked, CanInsert}
+use Rattle.sorted_group.specs.Loads.{LoadsLanes}
+use Rattle.sorted_group.specs.Standing.{CanSearch}
+use Rattle.sorted_group.proofs.BufferLoads.{GoesOnInside, HasRowAsBefore, loads_inside}
+use Rattle.sorted_group.proofs.BufferLoads.{loads_keep_row, row_on, search_after, still_filled}
+use Rattle.sorted_group.proofs.LaneChoice.{lane_loads}
+use Rattle.delta_buffer.specs.Inserting.{BelongsUntilLinked}
 use Rattle.delta_buffer.specs.Searching.{BelongsBetween, FindsGap}
 use Rattle.delta_buffer.specs.Walks.{Walks}
-use Rattle.delta_buffer.proofs.Carrying.{GoesOnInside, HasRowAsBefore, row_on, still_filled}
 use Rattle.delta_buffer.proofs.Carrying.{walk_inside, walk_keeps_row}
 use Rattle.delta_buffer.proofs.Linking.{belongs_elsewhere}
 use Rattle.index_tests.specs.Boards.{IsInside}
-use Rattle.index_tests.specs.Buffers.{HasSeven, IsAtGroup, IsEmptyBoard}
-use Rattle.index_tests.proofs.Groups.{no_lock_slot, reading_slot, stands_slot}
+use Rattle.index_tests.specs.Buffers.{CanLink, HasComeToLink, HasRowFor, IsInGroup, OpensWithout}
+use Rattle.index_tests.proofs.Groups.{in_group_slot, of_group_zero, reading_slot}
 
--- the row was filled with key 7
-pub has_seven : (b : Board) (h k : Hand) (place value : ℕ) → Fills b h place 7 value k →
-    HasSeven b place k
-has_seven b h k place value fills =
+-- ---- the row ----
+
+-- the row was filled with the key
+pub has_row_for : (b : Board) (h k : Hand) (place key value : ℕ) →
+    Fills b h place key value k → HasRowFor b key place k
+has_row_for b h k place key value fills =
     record {
       filled = record { held = fills.held; new_word = fills.state_word; link_word = refl };
-      key = fills.key_word;
+      has_key = fills.key_word;
     }
 
 -- the row stays so as long as it stands as before
-seven_on : (b : Board) (place : ℕ) (h k : Hand) → HasRowAsBefore b place h k →
-    HasSeven b place h → HasSeven b place k
-seven_on b place h k has seven =
+pub row_for_on : (b : Board) (key place : ℕ) (h k : Hand) → HasRowAsBefore b place h k →
+    HasRowFor b key place h → HasRowFor b key place k
+row_for_on b key place h k has row =
     record {
       filled = subst (λ (next : ℕ). IsFilled (opening_of b) k.number place next (known k))
           (sym (has.words Link)) (still_filled b place
-          (word (opening_of b) (known h) (PlaceWord place Link)) h k has seven.filled);
-      key = has.words Key ∙ seven.key;
+          (word (opening_of b) (known h) (PlaceWord place Link)) h k has row.filled);
+      has_key = has.words Key ∙ row.has_key;
     }
 
 -- ---- group 0 ----
 
-pub group_of_zero : (o : Opening) (t : Execution) → AreBuilt t → group_of o 0 t ≡ 0
-group_of_zero o t built = ((groups_as_opened o t built).0 0).0
-
-group_of_seven : (o : Opening) (t : Execution) → AreBuilt t → group_of o 7 t ≡ 0
-group_of_seven o t built = ((groups_as_opened o t built).0 7).0
-
-none_in_array : (b : Board) (t : Execution) → IsEmptyBoard b → Valid (opening_of b) t →
-    AreBuilt t → ArrayHasNone (opening_of b) t 0 7
-none_in_array b t board valid built a is =
+-- a key that the opening's rows do not have has no value in the array
+none_in_array : (b : Board) (key : ℕ) (t : Execution) → OpensWithout b key →
+    Valid (opening_of b) t → AreBuilt t → ArrayHasNone (opening_of b) t 0 key
+none_in_array b key t without valid built a is =
     let o = opening_of b in
-    let opened : opening_role o a ≡ InArray 0 7 = (arrays_as_opened o t valid built 0 7 a).1 is in
-    let none : opening_role o a ≡ Unused =
-    ap (λ (rs : Map). role_of_row (row_from (limits_of o.layout) 0 rs a)) board.empty in
-    let bad : Unused ≡ InArray 0 7 = sym none ∙ opened in
-    absurd (clash bad)
-  where
-    clash : Unused ≡ InArray 0 7 → ⊥
-    clash e = cc
+    let row = opening_role-array o a 0 key ((arrays_as_opened o t valid built 0 key a).1 is) in
+    let live = opening_row-live o a key row.1 row.2 in
+    none_some (sym without ∙ (row_of_place (limits o) 0 o.rows key a live).2)
 
 module _ (b : Board) (h r s : Hand) (number root group : ℕ) (inside : IsInside b number h)
     (loads : Makes b h (LoadRoot root) r) (names : Makes b r (LoadSlotGroup 0 0 group) s) where
-  stands_s : stands_in s.number 0 (known s) ≡ true
-  stands_s = stands_slot b h r number root inside loads s group names
+  in_group_s : IsInGroup b number s
+  in_group_s = in_group_slot b h r number root inside loads s group names
 
   pub can_see_phase : CanSeePhase (opening_of b) s.number 0 (known s)
   can_see_phase =
+      let o = opening_of b in
       let d = LoadSlotGroup 0 0 group in
+      let valid = valid_known b r s d loads.of names in
+      let built = built_known b r s d loads.of names in
       record {
-        allowed = inl (reading_slot b h r number root inside loads s group names, stands_s);
-        true_word = true_of_keys (opening_of b) (known s) (valid_known b r s d loads.of names) 0
-            (inl (0, group_of_zero (opening_of b) (known s) (built_known b r s d loads.of names)));
+        allowed = inl (
+          reading_slot b h r number root inside loads s group names,
+          in_group_s.search.stands,
+        );
+        true_word = true_of_keys o (known s) valid 0
+            (inl (0, of_group_zero o 0 (known s) built (omega arith)));
       }
 
   module _ (p : Hand) (found : ℕ) (looks : Makes b s (LoadPhase 0 found) p) where
-    stands_p : stands_in p.number 0 (known p) ≡ true
-    stands_p = still_stands b s p (LoadPhase 0 found) names.of looks tt 0 stands_s
+    in_group_p : IsInGroup b number p
+    in_group_p =
+        record {
+          numbered = looks.number ∙ in_group_s.numbered;
+          search = search_after b 0 s p (LoadPhase 0 found) tt (λ z. z) looks in_group_s.search;
+        }
 
     sees_open : saw_open p.number 0 (known p) ≡ true
     sees_open =
@@ -115,8 +118,9 @@ module _ (b : Board) (h r s : Hand) (number root group : ℕ) (inside : IsInside
         ∙ ap (λ (x : Bool). cond ((0 == 0) && x) true (saw_open s.number 0 t))
         (eq-eqb found (word_of_phase Open) is_open))
 
-    pub at_group : IsEmptyBoard b → (place : ℕ) → HasSeven b place h → IsAtGroup b place p
-    at_group board place row =
+    pub has_come : (key place : ℕ) → key ≤ greatest_key → OpensWithout b key →
+        HasRowFor b key place h → HasComeToLink b number key place p
+    has_come key place most without row =
         let o = opening_of b in
         let first = LoadRoot root in
         let second = LoadSlotGroup 0 0 group in
@@ -124,19 +128,8 @@ module _ (b : Board) (h r s : Hand) (number root group : ℕ) (inside : IsInside
         let valid = valid_known b s p third names.of looks in
         let built = built_known b s p third names.of looks in
         record {
-          search = record {
-            call = record {
-              of = looks.of;
-              reading = still_inside b s p third names.of looks tt
-                  (reading_slot b h r number root inside loads s group names);
-              holds_none = still_holds_no_lock b s p third names.of looks (λ z. z)
-                  (no_lock_slot b h r number root inside loads s group names);
-            };
-            stands = stands_p;
-            walkable = of_keys o (known p) valid 0 (inl (0, group_of_zero o (known p) built));
-            in_table = let two = board.groups in omega arith;
-          };
-          row = seven_on b place h p
+          in_group = in_group_p;
+          row = row_for_on b key place h p
               (row_on b place h s p third tt (λ c. refl) names.of looks
               (row_on b place h r s second tt (λ c. refl) loads.of names
               (row_on b place h h r first tt (λ c. refl) inside.of loads
@@ -150,41 +143,83 @@ module _ (b : Board) (h r s : Hand) (number root group : ℕ) (inside : IsInside
               newer = [];
               since = refl;
               stays = tt;
-              stands = stands_p;
-              of_key = group_of_seven o (known p) built;
+              stands = in_group_p.search.stands;
+              of_key = of_group_zero o key (known p) built most;
             };
             seen = sees_open;
-            array = none_in_array b (known p) board valid built;
+            array = none_in_array b key (known p) without valid built;
           };
         }
 
 -- ---- a gap ----
 
-pub can_insert : (b : Board) (place before next : ℕ) (h k : Hand) → IsAtGroup b place h →
-    Walks b 0 h k → FindsGap b 0 7 before next h k →
-    CanInsert (opening_of b) k.number 0 place before next (known k)
-can_insert b place before next h k at walks gap =
-    let o = opening_of b in
-    let on : GoesOnInside b h k = walk_inside b 0 h k at.search.call.of at.valid walks in
-    let has = walk_keeps_row b 0 place h k at.search.call.of walks at.row.filled.held in
-    let seven = seven_on b place h k has at.row in
-    let caller = at.search.call.reading.caller in
-    let whole : Valid o (on.newer ++ known h) = subst (Valid o) (sym on.on) on.valid in
-    let none : KnowsNoneElsewhere o h.number 7 0 (on.newer ++ known h) =
-    elsewhere_on o h.number 7 0 caller on.newer (known h) whole on.stays
-    (elsewhere_now o h.number 7 0 (known h) caller at.valid (inl at.elsewhere)) in
-    let belong : BelongsUntilLinked o h.number 0 7 (on.newer ++ known h) =
-    belongs_elsewhere o (on.newer ++ known h) h.number 7 0 caller none in
-    let there : BelongsUntilLinked o k.number 0 7 (known k) =
-    subst (λ (z : ℕ × Execution). BelongsUntilLinked o z.0 0 7 z.1)
-    (λ i. (sym on.number i, on.on i)) belong in
+-- what a caller that is to link its row carries over loads of the buffer
+record Carries (b : Board) (number key place : ℕ) (h : Hand) : Type 0 where
+  pub in_group : IsInGroup b number h
+  pub row : HasRowFor b key place h
+  pub seen : saw_open h.number 0 (known h) ≡ true
+  pub valid : Valid (opening_of b) (known h)
+  pub none : KnowsNoneElsewhere (opening_of b) h.number key 0 (known h)
+
+carries_first : (b : Board) (number key place : ℕ) (h : Hand) → HasComeToLink b number key place h →
+    Carries b number key place h
+carries_first b number key place h at =
     record {
-      filled = seven.filled;
-      between = subst (λ (key : ℕ). BelongsBetween o 0 key before next (known k)) (sym seven.key)
-          gap.belongs;
-      permission = inl (subst (λ (z : ℕ × Execution). saw_open z.0 0 z.1 ≡ true)
+      in_group = at.in_group;
+      row = at.row;
+      seen = at.seen;
+      valid = at.valid;
+      none = elsewhere_now (opening_of b) h.number key 0 (known h)
+          at.in_group.search.call.reading.caller at.valid (inl at.elsewhere);
+    }
+
+carries_on : (b : Board) (number key place : ℕ) (h k : Hand) → GoesOnInside b h k →
+    HasRowAsBefore b place h k → CanSearch b 0 k → Carries b number key place h →
+    Carries b number key place k
+carries_on b number key place h k on has search before =
+    let o = opening_of b in
+    let caller = before.in_group.search.call.reading.caller in
+    let whole : Valid o (on.newer ++ known h) = subst (Valid o) (sym on.on) on.valid in
+    record {
+      in_group = record { numbered = on.number ∙ before.in_group.numbered; search = search };
+      row = row_for_on b key place h k has before.row;
+      seen = subst (λ (z : ℕ × Execution). saw_open z.0 0 z.1 ≡ true)
           (λ i. (sym on.number i, on.on i))
-          (saw_open_on h.number 0 on.newer (known h) on.stays at.seen));
-      belongs = subst (λ (key : ℕ). BelongsUntilLinked o k.number 0 key (known k)) (sym seven.key)
-          there;
+          (saw_open_on h.number 0 on.newer (known h) on.stays before.seen);
+      valid = on.valid;
+      none = subst (λ (z : ℕ × Execution). KnowsNoneElsewhere o z.0 key 0 z.1)
+          (λ i. (sym on.number i, on.on i))
+          (elsewhere_on o h.number key 0 caller on.newer (known h) whole on.stays before.none);
+    }
+
+-- where the key was not found in its lane, its row can be linked
+pub can_link : (b : Board) (number lane key place before next most : ℕ) (h m k : Hand) →
+    HasComeToLink b number key place h → LoadsLanes b 0 most h m → CanSearch b 0 m →
+    Walks b 0 lane m k → CanSearch b 0 k → FindsGap b 0 lane key before next m k →
+    CanLink b number lane place before next k
+can_link b number lane key place before next most h m k at lanes search_m walks search_k gap =
+    let o = opening_of b in
+    let of = at.in_group.search.call.of in
+    let loads = lane_loads 0 lanes.0 lanes.1 in
+    let at_m : Carries b number key place m =
+    carries_on b number key place h m
+    (loads_inside b 0 h m of at.valid lanes.0 loads lanes.3)
+    (loads_keep_row b 0 place h m of at.row.filled.held lanes.0 loads lanes.3)
+    search_m (carries_first b number key place h at) in
+    let at_k : Carries b number key place k =
+    carries_on b number key place m k
+    (walk_inside b 0 lane m k search_m.call.of at_m.valid walks)
+    (walk_keeps_row b 0 lane place m k search_m.call.of walks at_m.row.filled.held)
+    search_k at_m in
+    record {
+      in_group = at_k.in_group;
+      may = record {
+        filled = at_k.row.filled;
+        between = subst (λ (j : ℕ). BelongsBetween o 0 lane j before next (known k))
+            (sym at_k.row.has_key) gap.belongs;
+        permission = inl at_k.seen;
+        belongs = subst (λ (j : ℕ). BelongsUntilLinked o k.number 0 j (known k))
+            (sym at_k.row.has_key)
+            (belongs_elsewhere o (known k) k.number key 0 search_k.call.reading.caller at_k.none);
+      };
     }

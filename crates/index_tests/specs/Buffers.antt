@@ -1,33 +1,43 @@
--- What the tests say of a buffer's board, and of a caller that is to link a row with key 7.
-use Rattle.std.specs.Prelude.{◌≡◌, ◌<◌, ℕ, true, []}
+-- What the tests say of a caller in group 0, and of the row that it is to link there.
+use Rattle.std.specs.Prelude.{◌≡◌, ℕ, true, None}
+use Rattle.map_model.specs.Map.{look}
 use Rattle.word_layout.specs.declared.places.Part.TheVariants.{Link}
 use Rattle.word_layout.specs.Words.{PlaceWord}
 use Rattle.index_machine.specs.Conditions.{Valid}
 use Rattle.index_machine.specs.Reaching.{saw_open}
-use Rattle.index_machine.specs.Words.{limits, word}
+use Rattle.index_machine.specs.Words.{word}
 use Rattle.index_rule.specs.declared.board.Board.{Board}
 use Rattle.index_rule.specs.declared.hand.Hand.{Hand}
 use Rattle.index_rule.specs.Buffers.{IsFilled, key_in}
 use Rattle.index_rule.specs.Elsewhere.{HasNoneWhereSeenOpen}
 use Rattle.index_rule.specs.Hands.{known, opening_of}
-use Rattle.delta_buffer.specs.Searching.{CanSearch}
+use Rattle.delta_buffer.specs.Inserting.{CanInsert}
+use Rattle.sorted_group.specs.Standing.{CanSearch}
 
--- the board has a caller and two groups, and was opened with no rows
-pub record IsEmptyBoard (b : Board) : Type 0 where
-  pub callers : 0 < (limits (opening_of b)).callers
-  pub groups : (limits (opening_of b)).groups ≡ 2
-  pub empty : (opening_of b).rows ≡ []
+-- the board was opened without a row of the key
+abbrev pub OpensWithout : Board → ℕ → Type 0
+OpensWithout b key = look (opening_of b).rows key ≡ None
 
--- the caller has a row of its own that is filled with key 7
-pub record HasSeven (b : Board) (place : ℕ) (h : Hand) : Type 0 where
+-- the caller with this number came to group 0, and can search its buffer
+pub record IsInGroup (b : Board) (number : ℕ) (h : Hand) : Type 0 where
+  pub numbered : h.number ≡ number
+  pub search : CanSearch b 0 h
+
+-- the caller has a row of its own that is filled with the key
+pub record HasRowFor (b : Board) (key place : ℕ) (h : Hand) : Type 0 where
   pub filled : IsFilled (opening_of b) h.number place
       (word (opening_of b) (known h) (PlaceWord place Link)) (known h)
-  pub key : key_in (opening_of b) place (known h) ≡ 7
+  pub has_key : key_in (opening_of b) place (known h) ≡ key
 
--- the caller came to group 0 with such a row, saw it open, and key 7 is not in its array
-pub record IsAtGroup (b : Board) (place : ℕ) (h : Hand) : Type 0 where
-  pub search : CanSearch b 0 h
-  pub row : HasSeven b place h
+-- the caller came to group 0 with such a row, saw it open, and the key is not in its array
+pub record HasComeToLink (b : Board) (number key place : ℕ) (h : Hand) : Type 0 where
+  pub in_group : IsInGroup b number h
+  pub row : HasRowFor b key place h
   pub seen : saw_open h.number 0 (known h) ≡ true
   pub valid : Valid (opening_of b) (known h)
-  pub elsewhere : HasNoneWhereSeenOpen (opening_of b) h.number 7 0 (known h)
+  pub elsewhere : HasNoneWhereSeenOpen (opening_of b) h.number key 0 (known h)
+
+-- the caller can link its row into the lane between these two places
+pub record CanLink (b : Board) (number lane place before next : ℕ) (h : Hand) : Type 0 where
+  pub in_group : IsInGroup b number h
+  pub may : CanInsert (opening_of b) h.number 0 lane place before next (known h)

@@ -13,8 +13,13 @@ use std::thread;
 use std::thread::Threads;
 use word_layout::{Layout, Limits, link_word};
 
-// The hand takes a row within so many tries.
-fn take_within(board: &Board, _number: u32, hand: &mut Hand, tries: u32) -> Option<PrivateRow>
+/// The hand takes a row within so many tries.
+pub(crate) fn take_within(
+    board: &Board,
+    _number: u32,
+    hand: &mut Hand,
+    tries: u32,
+) -> Option<PrivateRow>
     requires inside { IsInside board.now _number hand.old }
     requires none { HoldsNone (opening_of board.now) hand.old.number (known hand.old) }
     ensures inside { IsInside board.now _number hand.new }
@@ -130,14 +135,14 @@ fn two_rows_are_taken_in_turn_and_filled(rt: HostRuntime) {
     let third = next_hand(&rt, &board, 2, &mut hands);
     let keeper = next_hand(&rt, &board, 3, &mut hands);
     let (first, place) = visit(&board, 0, first);
-    assert_eq!(rt; place, Some(89));
+    assert_eq!(rt; place, Some(121));
     let (second, place) = visit(&board, 1, second);
-    assert_eq!(rt; place, Some(93));
+    assert_eq!(rt; place, Some(125));
     let (third, place) = visit(&board, 2, third);
     assert_eq!(rt; place, None);
     let words = closed(&rt, rt.alloc(), board, (first, second, third), keeper);
-    assert_eq!(rt; words.len(), 97);
-    assert_words(&rt, words.get(89..97), &[10, 20, 0, 93, 11, 21, 0, 0]);
+    assert_eq!(rt; words.len(), 129);
+    assert_words(&rt, words.get(121..129), &[10, 20, 0, 125, 11, 21, 0, 0]);
     assert_words(&rt, words.get(0..5), &[0, 2, 2, 2, 2]);
 }
 

@@ -25,6 +25,8 @@ mod hand_notes;
 #[cfg(test)]
 mod indexes;
 #[cfg(test)]
+mod lanes;
+#[cfg(test)]
 mod orders_of_one_key;
 #[cfg(test)]
 mod passes;
@@ -40,3 +42,5 @@ mod texts;
 mod values_in_turn;
 #[cfg(test)]
 mod waiters;
+#[cfg(test)]
+mod words_in_memory;

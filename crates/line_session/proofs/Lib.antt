@@ -1,4 +1,5 @@
 pub mod Known
 pub mod Sessions
+pub mod Endings
 pub mod OneText
 pub mod Carrying

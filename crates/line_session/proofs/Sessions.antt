@@ -1,7 +1,6 @@
 -- A session goes on by one request, and ends by one.
-use Rattle.std.proofs.Common.{◌≡◌, ◌≢◌, ◌⊎◌, ◌↔◌, ℕ, ◌+◌, ◌<◌, ◌≤◌, List, [], ◌∷◌, ◌++◌, length, Option, Some, None, unwrap_or, inl, inr, refl, sym, ap, subst, ◌∙◌, append_assoc, arith, length-append, length-take}
+use Rattle.std.proofs.Common.{◌≡◌, ◌≢◌, ◌⊎◌, ◌↔◌, ℕ, ◌+◌, ◌<◌, ◌≤◌, List, [], ◌∷◌, ◌++◌, length, take, Option, Some, None, unwrap_or, inl, inr, refl, sym, ap, subst, ◌∙◌, append_assoc, arith, length-append, length-take}
 use Rattle.std.specs.List.{AllByRecursion}
-use Rattle.std.proofs.lemmas.Bool.{cases_eq}
 use Rattle.std.proofs.lemmas.List.{append-nil}
 use Rattle.std.proofs.lemmas.List.Concat.{flat_map-append}
 use Rattle.map_model.specs.declared.calls.Call.{Call}
@@ -11,22 +10,16 @@ use Rattle.wire_commands.specs.declared.request.Request.TheVariants.{Quit}
 use Rattle.wire_commands.specs.declared.reply.Reply.{Reply}
 use Rattle.wire_commands.specs.Grammar.{Reads}
 use Rattle.wire_commands.specs.Replies.{line_of}
-use Rattle.wire_commands.specs.Stream.{Asks, AsksToEnd}
-use Rattle.wire_commands.specs.Feed.{room, StandsFor, TakesByte, TakesEnd}
-use Rattle.wire_commands.proofs.StreamLaws.{asks_byte, asks_newline}
+use Rattle.wire_commands.specs.Stream.{Asks, AsksToEnd, HasNoNewline}
+use Rattle.wire_commands.specs.Feed.{room, EndsLine, Lengthens, StandsFor, TakesEnd}
+use Rattle.wire_commands.proofs.StreamLaws.{asks_bytes, asks_newline}
 use Rattle.line_session.specs.declared.ends.Ended.{Ended}
 use Rattle.line_session.specs.declared.ends.Ended.TheVariants as ended
 use Rattle.line_session.specs.Ends.{EndsState}
 use Rattle.line_session.specs.Session.{Exchange, Session, lines_of}
-use Rattle.line_session.specs.Asked.{at_end, after_line, StopsAtLast, AreFirstLines, LacksOfLast, KeepsLimit}
-use Rattle.line_session.specs.Served.{SoFar, Conversation, ComesTo, AnswersOne, Continues, EndsByReply, EndsWithInput}
-use Rattle.line_session.proofs.Known.{append_known-nil, append_known-append}
-
--- the ends that come between two reads
-abbrev pub IsCutOff : Ended → Type 0
-IsCutOff ended.Limit = Unit {0}
-IsCutOff ended.ReadFault = Unit {0}
-IsCutOff how = ⊥
+use Rattle.line_session.specs.Asked.{at_end, StopsAtLast, AreFirstLines, LacksOfLast}
+use Rattle.line_session.specs.Served.{SoFar, Conversation, ComesTo, AnswersOne, Continues, EndsByReply}
+use Rattle.line_session.proofs.Known.{append_known-nil, append_known-append, told-more}
 
 all-push : {X : Type 0} (P : X → Type 0) (xs : List X) (x : X) → AllByRecursion P xs → P x
     → AllByRecursion P (xs ++ x ∷ [])
@@ -121,7 +114,7 @@ module _ {A : Type 0} (answers : A → Call → Answer → A → Type 0) where
       stops-at_last = (so_far.requests, request, refl, so_far.goes_on)
 
       -- a newline completed the line
-      comes-by_newline : (result : Option Ended) → Reads so_far.rest request → (one : One result)
+      pub comes-by_newline : (result : Option Ended) → Reads so_far.rest request → (one : One result)
           → (kept_new : List ℕ) → kept_new ≡ []
           → ComesTo answers first new (taken ++ 10 ∷ []) (written ++ one.added) kept_new 0 result
       comes-by_newline None reads one kept_new cleared = record {
@@ -198,32 +191,33 @@ module _ {A : Type 0} (answers : A → Call → Answer → A → Type 0) where
       ends-by_last (Some ended.ReadFault) some reads one = absurd one.wrote
       ends-by_last (Some ended.Limit) some reads one = absurd one.wrote
 
-      -- a feed gave the line at a byte
-      pub comes-by_line : (byte : ℕ) (kept_new : List ℕ) (result : Option Ended)
-          → TakesByte kept byte (Some request) kept_new → (one : One result)
-          → ComesTo answers first new (taken ++ byte ∷ []) (written ++ one.added) kept_new 0 result
-      comes-by_line byte kept_new result takes one = elim (cases_eq byte 10) [
-        | inl newline ↦
-            let reads = takes.reads newline so_far.rest so_far.keeps in
-            rw newline (comes-by_newline result reads one kept_new (takes.begins newline))
-        | inr other ↦ let none = takes.waits other in cc
-      ]
+    -- bytes came that end no line
+    pub comes-by_bytes : (bytes kept_new : List ℕ) → Lengthens kept bytes kept_new
+        → SoFar answers first old (taken ++ bytes) (written ++ []) kept_new
+    comes-by_bytes bytes kept_new longer = record {
+      requests = so_far.requests;
+      replies = so_far.replies;
+      rest = so_far.rest ++ bytes;
+      asks = asks_bytes taken so_far.requests so_far.rest bytes so_far.asks longer.whole;
+      keeps = longer.grows so_far.rest so_far.keeps;
+      goes_on = so_far.goes_on;
+      session = so_far.session;
+      wrote = append-nil written ∙ so_far.wrote;
+    }
 
-    -- a feed gave nothing at a byte
-    pub comes-by_byte : (byte : ℕ) (kept_new : List ℕ) → TakesByte kept byte None kept_new
-        → ComesTo answers first old (taken ++ byte ∷ []) (written ++ []) kept_new 0 None
-    comes-by_byte byte kept_new takes =
-        let other : byte ≢ 10 = λ newline. takes.reads newline in
-        record {
-          requests = so_far.requests;
-          replies = so_far.replies;
-          rest = so_far.rest ++ byte ∷ [];
-          asks = asks_byte taken so_far.requests so_far.rest byte so_far.asks other;
-          keeps = takes.grows other so_far.rest so_far.keeps;
-          goes_on = so_far.goes_on;
-          session = so_far.session;
-          wrote = append-nil written ∙ so_far.wrote;
-        }
+    -- the bytes of a line came, but for its newline
+    pub comes-by_front : (front : List ℕ) → HasNoNewline front
+        → SoFar answers first old (taken ++ front) written (take room (so_far.rest ++ front))
+    comes-by_front front whole = record {
+      requests = so_far.requests;
+      replies = so_far.replies;
+      rest = so_far.rest ++ front;
+      asks = asks_bytes taken so_far.requests so_far.rest front so_far.asks whole;
+      keeps = refl;
+      goes_on = so_far.goes_on;
+      session = so_far.session;
+      wrote = so_far.wrote;
+    }
 
     -- a feed that keeps nothing stands for no line, and for no other
     kept-nothing : (rest : List ℕ) → StandsFor kept rest → (kept ≡ []) ↔ (rest ≡ [])
@@ -260,28 +254,6 @@ module _ {A : Type 0} (answers : A → Call → Answer → A → Type 0) where
         ends-by_last request ends_old ends_new result some
         (takes.reads keeps_some so_far.rest so_far.keeps) one
 
-  -- a session that goes on is cut off between two reads
-  pub cut_off : (how : Ended) → IsCutOff how → (first now : A) (taken written kept : List ℕ)
-      → SoFar answers first now taken written kept
-      → Conversation answers first now how (after_line 0) taken written
-  cut_off ended.Limit cut first now taken written kept so_far = record {
-    requests = so_far.requests;
-    replies = so_far.replies;
-    covers = ((so_far.rest, so_far.asks), so_far.goes_on);
-    session = so_far.session;
-    wrote = so_far.wrote;
-  }
-  cut_off ended.ReadFault cut first now taken written kept so_far = record {
-    requests = so_far.requests;
-    replies = so_far.replies;
-    covers = ((so_far.rest, so_far.asks), so_far.goes_on);
-    session = so_far.session;
-    wrote = so_far.wrote;
-  }
-  cut_off ended.End cut first now taken written kept so_far = absurd cut
-  cut_off ended.Quit cut first now taken written kept so_far = absurd cut
-  cut_off ended.WriteFault cut first now taken written kept so_far = absurd cut
-
   -- no bytes yet
   pub continues-start : (old : A) (kept : List ℕ) (ends : EndsState)
       → Continues answers old old kept kept ends ends [] None
@@ -291,6 +263,58 @@ module _ {A : Type 0} (answers : A → Call → Answer → A → Type 0) where
     dropped = 0;
     few_dropped = λ some. some;
     part = λ first taken written so_far. rw (append-nil taken, append-nil written) so_far;
+  }
+
+  -- a line came, and its request was answered
+  pub continues-by_line : (old new : A) (kept bytes : List ℕ) (request : Request) (rest : List ℕ)
+      (ends_old ends_new : EndsState) (kept_new : List ℕ) (result : Option Ended)
+      (line : EndsLine kept bytes request rest) → kept_new ≡ []
+      → AnswersOne answers old new request ends_old ends_new result
+      → Continues answers old new kept kept_new ends_old ends_new (line.front ++ 10 ∷ []) result
+  unfolding comes-by_front
+  continues-by_line old new kept bytes request rest ends_old ends_new kept_new result line begins one = record {
+    added = one.added;
+    told = one.told;
+    dropped = 0;
+    few_dropped = λ some. some;
+    part = λ first taken written so_far.
+        subst (λ t. ComesTo answers first new t (written ++ one.added) kept_new 0 result)
+        (append_assoc taken line.front (10 ∷ []))
+        (comes-by_newline first old new (taken ++ line.front) written _
+        (comes-by_front first old new taken written kept so_far line.front line.whole)
+        request ends_old ends_new result (line.reads so_far.rest so_far.keeps) one kept_new begins);
+  }
+
+  -- bytes came that end no line
+  pub continues-by_bytes : (old : A) (kept bytes kept_new : List ℕ) (ends : EndsState)
+      → Lengthens kept bytes kept_new
+      → Continues answers old old kept kept_new ends ends bytes None
+  continues-by_bytes old kept bytes kept_new ends longer = record {
+    added = [];
+    told = sym (append_known-nil ends.written);
+    dropped = 0;
+    few_dropped = λ some. some;
+    part = λ first taken written so_far.
+        comes-by_bytes first old old taken written kept so_far bytes kept_new longer;
+  }
+
+  -- one part after another, and the session goes on
+  pub continues-on : (old mid new : A) (kept_old kept_mid kept_new : List ℕ)
+      (ends_old ends_mid ends_new : EndsState) (before bytes all : List ℕ) → before ++ bytes ≡ all
+      → Continues answers old mid kept_old kept_mid ends_old ends_mid before None
+      → Continues answers mid new kept_mid kept_new ends_mid ends_new bytes None
+      → Continues answers old new kept_old kept_new ends_old ends_new all None
+  continues-on old mid new kept_old kept_mid kept_new ends_old ends_mid ends_new before bytes all is one two = record {
+    added = one.added ++ two.added;
+    told = told-more _ _ _ one.added two.added one.told two.told;
+    dropped = 0;
+    few_dropped = λ some. some;
+    part = λ first taken written so_far.
+        subst (λ t. SoFar answers first new t (written ++ (one.added ++ two.added)) kept_new)
+        (append_assoc taken before bytes ∙ ap (λ (l : List ℕ). taken ++ l) is)
+        (subst (λ w. SoFar answers first new ((taken ++ before) ++ bytes) w kept_new)
+        (append_assoc written one.added two.added)
+        (two.part first (taken ++ before) (written ++ one.added) (one.part first taken written so_far)));
   }
 
   -- one part after another
@@ -353,35 +377,3 @@ module _ {A : Type 0} (answers : A → Call → Answer → A → Type 0) where
         (drops-more first new (taken ++ bytes) (written ++ one.added) kept_new one.dropped how more ends
         (one.part first taken written so_far));
   }
-
--- what an end by a reply is not, and what it says of the limit
-pub limit-by_reply : (how : Ended) (most taken : ℕ) → EndsByReply (Some how) → taken ≤ most
-    → KeepsLimit how most taken
-limit-by_reply ended.Quit most taken ends le = le
-limit-by_reply ended.WriteFault most taken ends le = le
-limit-by_reply ended.End most taken ends le = absurd ends
-limit-by_reply ended.ReadFault most taken ends le = absurd ends
-limit-by_reply ended.Limit most taken ends le = absurd ends
-
-pub no_end-by_reply : (how : Ended) → EndsByReply (Some how) → how ≡ ended.End → ⊥
-no_end-by_reply ended.Quit ends is = cc
-no_end-by_reply ended.WriteFault ends is = cc
-no_end-by_reply ended.End ends is = ends
-no_end-by_reply ended.ReadFault ends is = ends
-no_end-by_reply ended.Limit ends is = ends
-
--- what an end with the input is not, and what it says of the limit
-pub limit-with_input : (how : Ended) (most taken : ℕ) → EndsWithInput how → taken < most
-    → KeepsLimit how most taken
-limit-with_input ended.End most taken ends lt = lt
-limit-with_input ended.Quit most taken ends lt = omega arith
-limit-with_input ended.WriteFault most taken ends lt = omega arith
-limit-with_input ended.ReadFault most taken ends lt = absurd ends
-limit-with_input ended.Limit most taken ends lt = absurd ends
-
-pub no_read_fault-with_input : (how : Ended) → EndsWithInput how → how ≡ ended.ReadFault → ⊥
-no_read_fault-with_input ended.End ends is = cc
-no_read_fault-with_input ended.Quit ends is = cc
-no_read_fault-with_input ended.WriteFault ends is = cc
-no_read_fault-with_input ended.ReadFault ends is = ends
-no_read_fault-with_input ended.Limit ends is = ends

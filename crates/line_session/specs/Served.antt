@@ -1,5 +1,5 @@
 -- How a session went: what was asked and written for the bytes that were taken, and part by part how it came to that.
-use Rattle.std.specs.Prelude.{◌≡◌, ◌≢◌, ℕ, ◌<◌, List, [], ◌∷◌, ◌++◌, length, Option, Some, None}
+use Rattle.std.specs.Prelude.{◌≡◌, ◌≢◌, ◌⊎◌, ℕ, ◌<◌, List, [], ◌∷◌, ◌++◌, length, Option, Some, None}
 use Rattle.std.specs.Io.KnownBytes.{prepend_known, append_known}
 use Rattle.map_model.specs.declared.calls.Call.{Call}
 use Rattle.map_model.specs.declared.calls.Answer.{Answer}
@@ -37,6 +37,13 @@ WroteOne (Some ended.WriteFault) request line added =
     (lost : List ℕ) × (line ≡ added ++ lost) × (lost ≢ [])
 WroteOne (Some ended) request line added = ⊥
 
+-- a session that comes to this end hands on what is held back, but after a failed write; if that fails, the
+-- session ends by a fault
+abbrev pub HandsOnAtEnd : Ended → Ended → ℕ → Type 0
+HandsOnAtEnd how result held =
+    ((result ≡ how) × (how ≢ ended.WriteFault → held ≡ 0))
+    ⊎ ((result ≡ ended.WriteFault) × (how ≢ ended.WriteFault) × (0 < held))
+
 module _ {A : Type 0} (answers : A → Call → Answer → A → Type 0) where
   -- a session that goes on: what was asked and written for the bytes taken, and what is kept of the next line
   pub record SoFar (first now : A) (taken written kept : List ℕ) : Type 0 where
@@ -57,6 +64,21 @@ module _ {A : Type 0} (answers : A → Call → Answer → A → Type 0) where
     pub covers : Covers ended stop taken requests
     pub session : Session answers old requests replies new
     pub wrote : Wrote ended replies written
+
+  -- a session of the bytes taken that goes on, or one that ended so
+  abbrev pub Reaches : A → A → Option Ended → Stop → List ℕ → List ℕ → Type 0
+  Reaches old new None stop taken written = (kept : List ℕ) × SoFar old new taken written kept
+  Reaches old new (Some ended) stop taken written = Conversation old new ended stop taken written
+
+  -- how a whole session ended: with no byte held back; or by a write that failed; or by a flush that failed and left
+  -- some byte held back, where the session went on or had come to another end
+  abbrev pub Concludes : A → A → Ended → Stop → List ℕ → List ℕ → ℕ → Type 0
+  Concludes old new ended.WriteFault stop taken written held =
+      Conversation old new ended.WriteFault stop taken written
+      ⊎ ((reached : Option Ended) × (reached ≢ Some ended.WriteFault)
+      × Reaches old new reached stop taken written × (0 < held))
+  Concludes old new how stop taken written held =
+      Conversation old new how stop taken written × (held ≡ 0)
 
   -- a session that goes on, or one that ended
   abbrev pub ComesTo : A → A → List ℕ → List ℕ → List ℕ → ℕ → Option Ended → Type 0
@@ -102,4 +124,4 @@ module _ {A : Type 0} (answers : A → Call → Answer → A → Type 0) where
     pub stop : Stop
     pub stopped : IsStop stop ends_new.left most (length taken)
     pub ended_with_input : result ≡ ended.End → stop ≡ at_end
-    pub conversation : Conversation old new result stop taken written
+    pub concluded : Concludes old new result stop taken written ends_new.held

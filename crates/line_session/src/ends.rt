@@ -2,7 +2,10 @@
 //!
 //! An object may be both. So one state has the meanings of both, and a call says what it leaves alone of it.
 ghost use Rattle.std.specs.Prelude.{◌≡◌, ◌<◌, length};
-ghost use Rattle.line_session.specs.Ends.{EndsState, Reads, Writes};
+ghost use Rattle.line_session.specs.Ends.{EndsState, Reads, Writes, Flushes};
+
+use std::error::Error;
+use std::fmt;
 
 /// What a read came to.
 #[derive(Clone, Copy, Debug, PartialEq, Eq)]
@@ -27,6 +30,18 @@ pub enum Gave {
     Failed,
 }
 
+/// The sink failed, and counted it.
+#[derive(Clone, Copy, Debug, PartialEq, Eq)]
+pub struct SinkFailed;
+
+impl fmt::Display for SinkFailed {
+    fn fmt<W: fmt::Write>(&self, f: &mut fmt::Formatter<W>) -> fmt::Result {
+        write!(f, "the sink failed")
+    }
+}
+
+impl Error for SinkFailed {}
+
 /// How a session ended.
 #[derive(Clone, Copy, Debug, PartialEq, Eq)]
 pub enum Ended {
@@ -39,7 +54,7 @@ pub enum Ended {
     /// A read failed. All whole lines before it were answered.
     ReadFault,
 
-    /// A write failed. What was written is the beginning of the replies.
+    /// A write or a flush failed. What was written is the beginning of the replies.
     WriteFault,
 
     /// The byte limit was reached. All whole lines before it were answered.
@@ -68,12 +83,16 @@ pub trait Source: Ends {
 
 /// Where bytes go.
 pub trait Sink: Ends {
-    /// Takes the front of a piece.
+    /// Takes the front of a piece. What it takes may be held back until a flush.
     fn take(&mut self, piece: &[u8]) -> Gave
         requires { 0 < length piece.now }
         ensures { Writes result piece.now (Self.state self.old) (Self.state self.new) };
 
-    /// How many writes have failed. The count stands at its greatest number.
+    /// Hands on what is held back.
+    fn flush(&mut self) -> Result<(), SinkFailed>
+        ensures { Flushes result (Self.state self.old) (Self.state self.new) };
+
+    /// How many writes and flushes have failed. The count stands at its greatest number.
     fn faults(&self) -> u64
         ensures { result ≡ (Self.state self.now).write_faults };
 }

@@ -1,11 +1,11 @@
 //! Ends in memory, for tests and for programs that keep what they serve.
 //!
 //! Each call of one has a number, from 0. Calls that are listed fail, and a failure takes and gives nothing.
-ghost use Rattle.std.specs.Prelude.{◌≡◌, ◌+◌, ◌^◌, ◌-◌, ◌<◌, ◌↔◌, min, [], length, take, Contains, IsTrue, IfOk, Some, None};
+ghost use Rattle.std.specs.Prelude.{◌≡◌, ◌+◌, ◌^◌, ◌-◌, ◌<◌, ◌↔◌, min, [], length, take, Contains, IsTrue, IsOk, IfOk, Some, None};
 ghost use Rattle.line_session.specs.Ends.{HandsOut, Accepts, Counts};
 ghost use Rattle.line_session.specs.Memory.{HandsOutSteps, ReadsByScript, TakesByScript};
 
-use crate::{Ends, Gave, Sink, Source, Took};
+use crate::{Ends, Gave, Sink, SinkFailed, Source, Took};
 use std::alloc::{AllocError, Global};
 use std::marker::Model;
 
@@ -49,6 +49,7 @@ impl Ends for SureSource {
       left = Some s.left;
       read_faults = 0;
       written = None;
+      held = 0;
       write_faults = 0;
     } };
 }
@@ -120,6 +121,7 @@ impl Ends for BytesSource {
       left = Some s.supply.left;
       read_faults = s.faults;
       written = None;
+      held = 0;
       write_faults = 0;
     } };
 }
@@ -208,6 +210,7 @@ impl Ends for BytesSink {
       left = None;
       read_faults = 0;
       written = Some s.bytes;
+      held = 0;
       write_faults = s.faults;
     } };
 }
@@ -228,6 +231,14 @@ impl Sink for BytesSink {
         // The room was reserved when the sink was made.
         self.bytes.extend_from_slice(piece).unwrap();
         Gave::Bytes(piece.len())
+    }
+
+    /// Nothing is held back, so this is no call that may be listed.
+    fn flush(&mut self) -> Result<(), SinkFailed>
+        ensures ok { IsOk result }
+        ensures same { self.new ≡ self.old }
+    {
+        Ok(())
     }
 
     fn faults(&self) -> u64 {
@@ -280,6 +291,7 @@ impl Ends for CountSink {
       left = None;
       read_faults = 0;
       written = None;
+      held = 0;
       write_faults = 0;
     } };
 }
@@ -294,6 +306,14 @@ impl Sink for CountSink {
     {
         self.count = self.count.saturating_add(piece.len() as u64);
         Gave::Bytes(piece.len())
+    }
+
+    /// Nothing is held back.
+    fn flush(&mut self) -> Result<(), SinkFailed>
+        ensures ok { IsOk result }
+        ensures same { self.new ≡ self.old }
+    {
+        Ok(())
     }
 
     fn faults(&self) -> u64 {

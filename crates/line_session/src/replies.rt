@@ -1,35 +1,17 @@
 //! One request at a time: it is asked, and its reply is handed on whole.
 ghost use Rattle.std.specs.Prelude.{◌≡◌, [], ◌∷◌, OnOk, OnErr, IsErr};
 ghost use Rattle.std.specs.Io.KnownBytes.{append_known};
-ghost use Rattle.line_session.specs.Ends.{CountsWrite, TakesFront};
+ghost use Rattle.line_session.specs.Ends.{CountsWrite, HandsAllOn, HandsNotAllOn, TakesFront};
 ghost use Rattle.line_session.specs.Session.{Exchange};
 ghost use Rattle.wire_commands.specs.Replies.{line_of};
 
-use crate::{Gave, Sink};
+use crate::{Gave, Sink, SinkFailed};
 use map_model::{Answer, Answerer, Call};
-use std::error::Error;
-use std::fmt;
 use std::sync::Wait;
 use wire_commands::{Reply, Request};
 
-/// The sink failed, and counted it.
-#[derive(Clone, Copy, Debug, PartialEq, Eq)]
-pub struct SinkFailed;
-
-impl fmt::Display for SinkFailed {
-    fn fmt<W: fmt::Write>(&self, f: &mut fmt::Formatter<W>) -> fmt::Result {
-        write!(f, "the sink failed")
-    }
-}
-
-impl Error for SinkFailed {}
-
-/// Asks what a request asks, and gives the reply that tells the answer.
-pub(crate) fn reply_to<R: Wait + Copy, A: Answerer>(
-    rt: &R,
-    answerer: &mut A,
-    request: Request,
-) -> Reply
+/// Asks what a request asks, and gives the reply that tells the answer. It takes effect where its answerer says.
+pub fn reply_to<R: Wait + Copy, A: Answerer>(rt: &R, answerer: &mut A, request: Request) -> Reply
     ensures { Exchange A.answers answerer.old request (result ∷ []) answerer.new }
 {
     match request {
@@ -72,6 +54,16 @@ pub fn write_all<K: Sink>(sink: &mut K, piece: &[u8]) -> Result<(), SinkFailed>
         }
     }
     Ok(())
+}
+
+/// Writes a piece, and hands on all that the sink holds back.
+pub fn write_out<K: Sink>(sink: &mut K, piece: &[u8]) -> Result<(), SinkFailed>
+    ensures ok { OnOk result (HandsAllOn piece.now (K.state sink.old) (K.state sink.new)) }
+    ensures err { OnErr result (HandsNotAllOn piece.now (K.state sink.old) (K.state sink.new)) }
+    ensures faults { CountsWrite (IsErr result) (K.state sink.old) (K.state sink.new) }
+{
+    write_all(sink, piece)?;
+    sink.flush()
 }
 
 /// Writes a reply's line to the sink.

@@ -2,13 +2,14 @@
 //!
 //! Bytes come in pieces that have nothing to do with the lines. A feed keeps what has come of a line, so a session
 //! is the same however its input is cut.
-ghost use Rattle.std.specs.Prelude.{◌≡◌, ◌<◌, ◌≤◌, [], ◌∷◌, Some};
+ghost use Rattle.std.specs.Prelude.{◌≡◌, ◌≢◌, ◌<◌, ◌≤◌, Some};
 ghost use Rattle.line_session.specs.Ends.{CountsRead, CountsWrite, HandsOut, TakesAtMost, ends_of};
 ghost use Rattle.line_session.specs.Served.{Serves, Continues, Finishes, AnswersOne};
-ghost use Rattle.line_session.specs.Served.{EndsByReply, EndsWithInput};
+ghost use Rattle.line_session.specs.Served.{EndsByReply, EndsWithInput, HandsOnAtEnd};
 
+use crate::gates::{Arrivals, Gate};
 use crate::replies::{reply_to, write_reply};
-use crate::{Ended, Sink, Source, Took};
+use crate::{Ended, Sink, SinkFailed, Source, Took};
 use map_model::Answerer;
 use std::sync::Wait;
 use wire_commands::{Feed, Request};
@@ -17,14 +18,18 @@ use wire_commands::{Feed, Request};
 const PIECE: usize = 4096;
 
 /// Serves one session: reads requests, asks each and writes its reply before the next, until the input ends, a line
-/// asks for the end, an end fails, or `most` bytes were taken.
+/// asks for the end, an end fails, or `most` bytes were taken. What the sink holds back of the replies is handed on
+/// before each read, and before the session ends.
 ///
-/// A call takes effect where its answerer says. What follows a `quit` in the same piece was taken and is dropped.
-pub fn serve_one<R: Wait + Copy, A: Answerer, S: Source, K: Sink>(
+/// Each request waits at the gate before it is asked, under the number of the link and its own, from 0. A call takes
+/// effect where its answerer says. What follows a `quit` in the same piece was taken and is dropped.
+pub fn serve_one<R: Wait + Copy, A: Answerer, S: Source, K: Sink, G: Gate>(
     rt: &R,
     answerer: &mut A,
     source: &mut S,
     sink: &mut K,
+    gate: &G,
+    link: u64,
     most: u64,
 ) -> Ended
     requires { 1 ≤ most }
@@ -39,30 +44,68 @@ pub fn serve_one<R: Wait + Copy, A: Answerer, S: Source, K: Sink>(
         (K.state sink.old) (K.state sink.new) }
 {
     let mut feed = Feed::new();
+    let mut arrivals = Arrivals::new(gate, link);
     let mut buffer = [0; PIECE];
     let mut left = most;
     for _ in rt.forever() {
+        // Who waits for the replies so far, before asking on, has them now.
+        if sink.flush().is_err() {
+            return Ended::WriteFault;
+        }
         if left == 0 {
             return Ended::Limit;
         }
-        match read_piece(source, &mut buffer, left) {
+        match read_piece(source, sink, &mut buffer, left) {
             Took::Bytes(count) => {
                 left -= count as u64;
                 let piece = &buffer[..count];
-                if let Some(ended) = answer_piece(rt, answerer, sink, &mut feed, piece) {
-                    return ended;
+                if let Some(ended) = answer_piece(
+                    rt,
+                    answerer,
+                    sink,
+                    &mut arrivals,
+                    &mut feed,
+                    piece,
+                ) {
+                    return hand_on(sink, ended);
                 }
             }
-            Took::End => return answer_rest(rt, answerer, sink, &mut feed),
+            Took::End => {
+                let ended = answer_rest(rt, answerer, sink, &mut arrivals, &mut feed);
+                return hand_on(sink, ended);
+            }
             Took::Failed => return Ended::ReadFault,
         }
     }
     unreachable!()
 }
 
-// Reads a piece of at most so many bytes.
-fn read_piece<S: Source>(source: &mut S, buffer: &mut [u8; PIECE], most: u64) -> Took
-    requires { 0 < most }
+// Hands on what the sink holds back at this end of the session. After a failed write nothing more is tried.
+fn hand_on<K: Sink>(sink: &mut K, ended: Ended) -> Ended
+    ensures end { HandsOnAtEnd ended result (K.state sink.new).held }
+    ensures written { (K.state sink.new).written ≡ (K.state sink.old).written }
+    ensures faults { CountsWrite ((result ≡ Ended.WriteFault) × (ended ≢ Ended.WriteFault))
+        (K.state sink.old) (K.state sink.new) }
+{
+    match ended {
+        Ended::WriteFault => ended,
+        _ => match sink.flush() {
+            Ok(()) => ended,
+            Err(SinkFailed) => Ended::WriteFault,
+        },
+    }
+}
+
+// Reads a piece of at most so many bytes. The sink is named by the contract alone: while the session waits for
+// bytes, all replies so far have gone out.
+fn read_piece<S: Source, K: Sink>(
+    source: &mut S,
+    sink: &K,
+    buffer: &mut [u8; PIECE],
+    most: u64,
+) -> Took
+    requires some { 0 < most }
+    requires handed_on { (K.state sink.now).held ≡ 0 }
     ensures bytes { HandsOut result buffer.new
         (S.state source.old).left (S.state source.new).left }
     ensures limit { TakesAtMost result most }
@@ -74,10 +117,11 @@ fn read_piece<S: Source>(source: &mut S, buffer: &mut [u8; PIECE], most: u64) ->
 }
 
 // Answers each request that a piece completes, until one ends the session.
-fn answer_piece<R: Wait + Copy, A: Answerer, K: Sink>(
+fn answer_piece<R: Wait + Copy, A: Answerer, K: Sink, G: Gate>(
     rt: &R,
     answerer: &mut A,
     sink: &mut K,
+    arrivals: &mut Arrivals<'_, G>,
     feed: &mut Feed,
     piece: &[u8],
 ) -> Option<Ended>
@@ -87,40 +131,22 @@ fn answer_piece<R: Wait + Copy, A: Answerer, K: Sink>(
     ensures faults { CountsWrite (result ≡ Some Ended.WriteFault)
         (K.state sink.old) (K.state sink.new) }
 {
-    for byte in piece {
-        if let Some(ended) = answer_byte(rt, answerer, sink, feed, *byte) {
+    let mut rest = piece;
+    while let Some((request, more)) = feed.line(rest) {
+        if let Some(ended) = answer(rt, answerer, sink, arrivals, request) {
             return Some(ended);
         }
+        rest = more;
     }
     None
 }
 
-// Answers the request that a byte completes, if it completes one.
-#[inline]
-fn answer_byte<R: Wait + Copy, A: Answerer, K: Sink>(
-    rt: &R,
-    answerer: &mut A,
-    sink: &mut K,
-    feed: &mut Feed,
-    byte: u8,
-) -> Option<Ended>
-    ensures part { Continues A.answers answerer.old answerer.new feed.old feed.new
-        (K.state sink.old) (K.state sink.new) (byte ∷ []) result }
-    ensures ends { EndsByReply result }
-    ensures faults { CountsWrite (result ≡ Some Ended.WriteFault)
-        (K.state sink.old) (K.state sink.new) }
-{
-    match feed.byte(byte) {
-        Some(request) => answer(rt, answerer, sink, request),
-        None => None,
-    }
-}
-
 // Answers the line that the end of the input completes, if there is one.
-fn answer_rest<R: Wait + Copy, A: Answerer, K: Sink>(
+fn answer_rest<R: Wait + Copy, A: Answerer, K: Sink, G: Gate>(
     rt: &R,
     answerer: &mut A,
     sink: &mut K,
+    arrivals: &mut Arrivals<'_, G>,
     feed: &mut Feed,
 ) -> Ended
     ensures whole { Finishes A.answers answerer.old answerer.new feed.old
@@ -130,16 +156,17 @@ fn answer_rest<R: Wait + Copy, A: Answerer, K: Sink>(
         (K.state sink.old) (K.state sink.new) }
 {
     match feed.end() {
-        Some(request) => answer(rt, answerer, sink, request).unwrap_or(Ended::End),
+        Some(request) => answer(rt, answerer, sink, arrivals, request).unwrap_or(Ended::End),
         None => Ended::End,
     }
 }
 
 // Answers one request, and tells whether the session ends with it.
-fn answer<R: Wait + Copy, A: Answerer, K: Sink>(
+fn answer<R: Wait + Copy, A: Answerer, K: Sink, G: Gate>(
     rt: &R,
     answerer: &mut A,
     sink: &mut K,
+    arrivals: &mut Arrivals<'_, G>,
     request: Request,
 ) -> Option<Ended>
     ensures one { AnswersOne A.answers answerer.old answerer.new request
@@ -147,6 +174,7 @@ fn answer<R: Wait + Copy, A: Answerer, K: Sink>(
     ensures faults { CountsWrite (result ≡ Some Ended.WriteFault)
         (K.state sink.old) (K.state sink.new) }
 {
+    arrivals.pass_next(rt);
     let reply = reply_to(rt, answerer, request);
     if write_reply(sink, reply).is_err() {
         return Some(Ended::WriteFault);

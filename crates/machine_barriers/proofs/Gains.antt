@@ -151,11 +151,11 @@ reached_gain c p b (LoadState a found) t e = (
       inr (z.0, inl (a, ap (LoadState a) (test_is found (word_of_state (state.Redirect p)) z.1))))
       (set_by b c (found == word_of_state (state.Redirect p)) (reached c p t) e),
 )
-reached_gain c p b (LoadHead g found) t e = (
+reached_gain c p b (LoadHead g lane found) t e = (
   refl,
   ⊎_elim (λ (z : reached c p t ≡ true). inl z)
       (λ (z : (b ≡ c) × (names_place found p ≡ true)).
-      let w = names_is found p z.1 in inr (z.0, inr (inl (g, ap (LoadHead g) w.0, w.1))))
+      let w = names_is found p z.1 in inr (z.0, inr (inl (g, lane, ap (LoadHead g lane) w.0, w.1))))
       (set_by b c (names_place found p) (reached c p t) e),
 )
 reached_gain c p b (LoadLink g q found) t e = (

@@ -12,6 +12,7 @@ use Rattle.index_machine.specs.Places.{form}
 use Rattle.index_machine.specs.Reaching.{SeesSlot, reached, root_seen, saw_open, saw_opened}
 use Rattle.index_machine.specs.Reaching.{stands_in}
 use Rattle.index_machine.specs.RebuildConditions.{MayLoadPhase}
+use Rattle.index_machine.specs.Lanes.{HasLane}
 use Rattle.index_machine.specs.RecordConditions.{IsInArrayOf, IsLinkInto, MayWalk}
 use Rattle.index_machine.specs.Rows.{InBuffer, role}
 use Rattle.index_machine.specs.Sections.{IsCaller, IsInside, IsKeeper, IsOutside, IsReading}
@@ -117,11 +118,12 @@ LeadsTo o c p t =
     ((a : ℕ) × (y : ℕ) × IsInArrayOf o c a t × (form o a t ≡ Redirect p y))
     ⊎ ((g : ℕ) × (k : ℕ) × (stands_in c g t ≡ true) × (role o p t ≡ InBuffer g k))
 
-link_leads : (o : Opening) (c g p : ℕ) (t : Execution) → stands_in c g t ≡ true → p ≢ 0 →
-    IsLinkInto o g p t → LeadsTo o c p t
-link_leads o c g p t s n says =
+link_leads : (o : Opening) (c g lane p : ℕ) (t : Execution) → stands_in c g t ≡ true → p ≢ 0 →
+    IsLinkInto o g lane p t → LeadsTo o c p t
+link_leads o c g lane p t s n says =
     ⊎_elim (λ (z : p ≡ 0). absurd (n z))
-    (λ (z : (k : ℕ) × (role o p t ≡ InBuffer g k)). inr (g, z.0, s, z.1)) says
+    (λ (z : (k : ℕ) × (role o p t ≡ InBuffer g k) × HasLane o g lane k t).
+    inr (g, z.0, s, z.1)) says
 
 pub loads_place : (o : Opening) (c p : ℕ) (d : Action) (t : Execution) → IsCaller o c →
     Allowed o t c d → LoadsPlace p d → IsReading o c t × LeadsTo o c p t
@@ -131,17 +133,17 @@ loads_place o c p d t is may by =
     let m = may_as o t c d (LoadState z.0 (word_of_state (state.Redirect p))) z.1 may in
     let f = m.follows is p refl in let r = redirect_word_is (form o z.0 t) p m.says in
     (f.0, inl (z.0, r.0, f.1, r.1)))
-    (λ (y : ((g : ℕ) × (d ≡ LoadHead g p) × (p ≢ 0))
+    (λ (y : ((g : ℕ) × (lane : ℕ) × (d ≡ LoadHead g lane p) × (p ≢ 0))
     ⊎ ((g : ℕ) × (q : ℕ) × (d ≡ LoadLink g q p) × (p ≢ 0))).
     ⊎_elim
-    (λ (z : (g : ℕ) × (d ≡ LoadHead g p) × (p ≢ 0)).
-    let m = may_as o t c d (LoadHead z.0 p) z.1 may in
+    (λ (z : (g : ℕ) × (lane : ℕ) × (d ≡ LoadHead g lane p) × (p ≢ 0)).
+    let m = may_as o t c d (LoadHead z.0 z.1 p) z.2 may in
     let w = walks o c z.0 t is m.allowed in
-    (w.0, link_leads o c z.0 p t w.1 z.2 (m.says is)))
+    (w.0, link_leads o c z.0 z.1 p t w.1 z.3 (m.says is)))
     (λ (z : (g : ℕ) × (q : ℕ) × (d ≡ LoadLink g q p) × (p ≢ 0)).
     let m = may_as o t c d (LoadLink z.0 z.1 p) z.2 may in
     let w = walks o c z.0 t is m.allowed in
-    (w.0, link_leads o c z.0 p t w.1 z.3 (m.says is)))
+    let on = m.says is in (w.0, link_leads o c z.0 on.lane p t w.1 z.3 on.link))
     y)
     by
 

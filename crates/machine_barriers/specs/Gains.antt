@@ -37,7 +37,7 @@ LoadsGroup group action =
 abbrev pub LoadsPlace : ℕ → Action → Type 0
 LoadsPlace place action =
     ((from : ℕ) × (action ≡ LoadState from (word_of_state (state.Redirect place))))
-    ⊎ (((group : ℕ) × (action ≡ LoadHead group place) × (place ≢ 0))
+    ⊎ (((group : ℕ) × (lane : ℕ) × (action ≡ LoadHead group lane place) × (place ≢ 0))
     ⊎ ((group : ℕ) × (row : ℕ) × (action ≡ LoadLink group row place) × (place ≢ 0)))
 
 -- the action loads this root word

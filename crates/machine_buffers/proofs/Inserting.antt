@@ -100,7 +100,7 @@ buffer_on o t b d g f k valid may at none p e = ⊎_elim
     (λ (z : role o p t ≡ InBuffer g k). buffer_tombstones o t b d p g k may
     (λ c is leave. (opened_groups_hold o t valid).closed c g is leave f at) z (none p z))
     (λ (z : IsLinkOf g p k d).
-    let m = may_as o t b d (LinkRow g p z.0 z.1 z.2) z.3 may in
+    let m = may_as o t b d (LinkRow g z.lane p z.change z.before z.next) z.is may in
     absurd ((opened_groups_hold o t valid).closed b g m.caller m.permission f at))
     (row_back o t b d p g k e)
 

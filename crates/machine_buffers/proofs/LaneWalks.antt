@@ -1,5 +1,5 @@
 -- What the links of a lane say.
-use Rattle.std.proofs.Common.{◌≡◌, ◌≢◌, ℕ, zero, suc, ◌+◌, ◌<◌, ◌≤◌, inl, inr, ⊎_elim, Option}
+use Rattle.std.proofs.Common.{◌≡◌, ◌≢◌, ℕ, zero, suc, ◌+◌, ◌<◌, ◌≤◌, inl, inr, ⊎_elim}
 use Rattle.std.proofs.Common.{Some, None, true, ◌++◌, refl, sym, ap, ◌∙◌, subst, arith}
 use Rattle.index_machine.proofs.Executions.{valid_before}
 use Rattle.index_machine.specs.Conditions.{Valid}
@@ -11,7 +11,7 @@ use Rattle.index_machine.specs.Words.{word}
 use Rattle.index_machine.specs.declared.opening.Opening.{Opening}
 use Rattle.machine_buffers.proofs.LinkedLanes.{leads_from, linked_kept, linked_on, row_is}
 use Rattle.machine_buffers.proofs.LinkingRows.{all_listed, row_place}
-use Rattle.machine_buffers.proofs.NextRows.{HasNoneFrom, IsFirstBefore, row_or_none}
+use Rattle.machine_buffers.proofs.NextRows.{HasNoneFrom, IsFirstBefore, none_unless, row_or_none}
 use Rattle.machine_buffers.proofs.Walkable.{buffers_hold}
 use Rattle.machine_buffers.specs.Lanes.{IsBefore, IsInRange, IsLinkedLane, LaneDecides, Lane}
 use Rattle.machine_buffers.specs.Lanes.{LaneLinksDecide, LaneLinksLeadIntoTheLane, LaneLinksRise}
@@ -52,10 +52,6 @@ into_lane o lane q t valid is into =
       in_range,
     ))
     (row_or_none m l.0 lane.end (rising_at o lane.group t valid))
-
-pub none_unless : (x : Option ℕ) → ((q : ℕ) → x ≡ Some q → ⊥) → x ≡ None
-none_unless None never = refl
-none_unless (Some q) never = absurd (never q refl)
 
 module _ (o : Opening) (t : Execution) (valid : Valid o t) (lane : Lane) (k n low : ℕ)
     (is : IsLinkedLane o lane t) (from : lane.low ≤ low) (le : low ≤ k) (before : IsBefore k lane.end)

@@ -1,7 +1,10 @@
 pub mod NextRows
 pub mod LinkedLanes
 pub mod OutOfUse
+pub mod OpenedLanes
+pub mod BegunLanes
 pub mod LinkWords
+pub mod LaneWords
 pub mod LinkingRows
 pub mod Walkable
 pub mod LaneWalks
@@ -10,3 +13,5 @@ pub mod InsertPermissions
 pub mod Ranges
 pub mod Walks
 pub mod Inserting
+pub mod Cuts
+pub mod Reclaiming

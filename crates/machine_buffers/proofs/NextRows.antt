@@ -120,6 +120,10 @@ first_or_none (r ∷ rs) low rising = ⊎_elim
         ))
         old
 
+pub none_unless : (x : Option ℕ) → ((q : ℕ) → x ≡ Some q → ⊥) → x ≡ None
+none_unless None never = refl
+none_unless (Some q) never = absurd (never q refl)
+
 -- ---- up to an end ----
 
 here_below : (end : ℕ) (r : ℕ × ℕ) → r.0 < end → below end (Some r) ≡ Some r
@@ -136,6 +140,12 @@ here_before (Some end) r is = here_below end r is
 none_before : (end : Option ℕ) → before_end end None ≡ None
 none_before None = refl
 none_before (Some end) = refl
+
+-- no link leads on among no rows
+pub no_rows : (end : Option ℕ) (low : ℕ) → link_from end low [] ≡ 0
+no_rows end low =
+    ap (λ (f : Option (ℕ × ℕ)). place_of_row (before_end end f)) (from_none low)
+    ∙ ap place_of_row (none_before end)
 
 -- no row from this key on stands before the end
 abbrev pub HasNoneFrom : Map → ℕ → Option ℕ → Type 0

@@ -36,7 +36,7 @@ abbrev pub IsKept : Opening → ℕ → ℕ → Execution → Type 0
 IsKept o g k t = IsKeyOf o g k t ⊎ IsOutOfUse o g t
 
 -- the group of a key, as another comes in its place
-kept_install : (o : Opening) (t : Execution) (b : ℕ) (spot : InstallWord) (lead low high g k : ℕ) →
+pub kept_install : (o : Opening) (t : Execution) (b : ℕ) (spot : InstallWord) (lead low high g k : ℕ) →
     Valid o t → Allowed o t b (Install spot lead low high) → IsKeyOf o g k t →
     IsKept o g k (event b (Install spot lead low high) ∷ t)
 kept_install o t b spot lead low high g k valid may of = go (within low k high) refl of
@@ -79,7 +79,7 @@ kept_install o t b spot lead low high g k valid may of = go (within low k high) 
         (replaced_out o t g valid (was_replaced z x)) (λ s. let bad = s.3 in cc))) of
 
 -- as another group is begun anew
-kept_new : (o : Opening) (t : Execution) (b n low high i g k : ℕ) → Valid o t →
+pub kept_new : (o : Opening) (t : Execution) (b n low high i g k : ℕ) → Valid o t →
     Allowed o t b (NewGroup n low high i) → g ≢ n → IsKeyOf o g k t →
     IsKept o g k (event b (NewGroup n low high i) ∷ t)
 kept_new o t b n low high i g k valid may other of = ⊎_elim
@@ -122,9 +122,10 @@ kept_step o t b d g k q valid may e of = ⊎_elim
 linked_in_range : (o : Opening) (t : Execution) (b g q k : ℕ) (d : Action) → Allowed o t b d →
     IsLinkOf g q k d → IsKeyOf o g k (event b d ∷ t)
 linked_in_range o t b g q k d may is =
-    subst (λ (x : Action). IsKeyOf o g k (event b x ∷ t)) (sym is.3)
-    (subst (λ (j : ℕ). IsKeyOf o g j (event b (LinkRow g q is.0 is.1 is.2) ∷ t)) is.4
-    (inl (may_as o t b d (LinkRow g q is.0 is.1 is.2) is.3 may).belongs))
+    let link : Action = LinkRow g is.lane q is.change is.before is.next in
+    subst (λ (x : Action). IsKeyOf o g k (event b x ∷ t)) (sym is.is)
+    (subst (λ (j : ℕ). IsKeyOf o g j (event b link ∷ t)) is.key
+    (inl (may_as o t b d (LinkRow g is.lane q is.change is.before is.next) is.is may).belongs))
 
 pub in_range : RowsHaveKeysOfTheirGroup
 in_range o [] valid g k q e = absurd (opening_role-buffer o q g k e)

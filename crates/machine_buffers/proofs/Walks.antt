@@ -1,6 +1,6 @@
 -- The laws of walks.
 use Rattle.std.proofs.Common.{◌≡◌, ◌≢◌, ℕ, zero, suc, ◌<◌, inl, inr, ⊎_elim}
-use Rattle.std.proofs.Common.{Some, true, false, [], ◌∷◌, ◌++◌, refl, sym, ap, ◌∙◌, subst, arith}
+use Rattle.std.proofs.Common.{Some, true, false, [], ◌∷◌, ◌++◌, refl, sym, ap, ◌∙◌, subst}
 use mathlib.Core.Logic.{dite}
 use native.Mathlib.Decide.{ℕ_discrete}
 use Rattle.index_machine.proofs.Executions.{choice-other, choice-same, valid_before}
@@ -9,22 +9,26 @@ use Rattle.index_machine.specs.declared.events.Action.{Action}
 use Rattle.index_machine.specs.declared.events.Action.TheVariants.{LinkRow, NewGroup}
 use Rattle.index_machine.specs.Execution.{Execution, event}
 use Rattle.index_machine.specs.KeyRanges.{group_of, predecessor, successor}
+use Rattle.index_machine.specs.Lanes.{HasLane, lanes}
 use Rattle.index_machine.specs.Reaching.{stands_in}
 use Rattle.index_machine.specs.RecordConditions.{IsLinkInto}
 use Rattle.index_machine.specs.Represents.{has_stale_phase}
 use Rattle.index_machine.specs.Rows.{InBuffer, role}
-use Rattle.index_machine.specs.Sections.{IsCaller}
+use Rattle.index_machine.specs.Sections.{IsCaller, StaysInside}
 use Rattle.index_machine.specs.Words.{link_behind, word}
 use Rattle.index_machine.specs.declared.opening.Opening.{Opening}
+use Rattle.machine_buffers.proofs.BegunLanes.{HasSameLanes, has_same, lane_of, lane_same, lanes_while}
+use Rattle.machine_buffers.proofs.BegunLanes.{range_of, rows_have_lanes}
 use Rattle.machine_buffers.proofs.LaneWalks.{into_lane, lane_decides, lane_no_return, lane_rises}
-use Rattle.machine_buffers.proofs.LaneWalks.{row_stays}
+use Rattle.machine_buffers.proofs.LinkingRows.{all_listed}
 use Rattle.machine_buffers.proofs.Phases.{true_or_out, true_while}
 use Rattle.machine_buffers.proofs.Walkable.{IsEmpty, buffers_hold, walk_on}
 use Rattle.machine_buffers.specs.Groups.{IsOfAKey, Begins, IsOutOfUse}
-use Rattle.machine_buffers.specs.Lanes.{IsInRange, IsLaneLink, buffer_lane, lane_link}
+use Rattle.machine_buffers.specs.Lanes.{IsInRange, IsLaneLink, IsLaneLinkBefore, IsLinkedLane, Lane}
+use Rattle.machine_buffers.specs.Lanes.{buffer_lane, lane_link}
 use Rattle.machine_buffers.specs.Phases.{PhasesBeforeAreTrue, PhasesOfKeysAreTrue, TruePhasesStay}
 use Rattle.machine_buffers.specs.Walks.{BuffersBeforeAreWalkable, BuffersOfKeysAreWalkable}
-use Rattle.machine_buffers.specs.Walks.{Decides, IsWalkable, KeysOfRowsRise}
+use Rattle.machine_buffers.specs.Walks.{Decides, IsLinkBefore, IsWalkable, KeysOfRowsRise}
 use Rattle.machine_buffers.specs.Walks.{LeftLinksDoNotComeBack, LinkedRowsStay}
 use Rattle.machine_buffers.specs.Walks.{LinksBeforeAKeyDecide, LinksBeforeAKeyStay}
 use Rattle.machine_buffers.specs.Walks.{LinksLeadIntoTheBuffer, LinksLeadToTheNextRow, LinksRise}
@@ -36,6 +40,7 @@ use Rattle.map_model.proofs.Histories.{look-put-else}
 use Rattle.map_model.specs.Map.{Map, key_of, look, put}
 use Rattle.machine_readers.proofs.ReadSections.{place_on, stands_in_on}
 use Rattle.machine_readers.proofs.StandingCallers.{groups_before_are_opened}
+use Rattle.word_layout.specs.declared.headers.HeaderWord.TheVariants as header
 
 -- ---- which buffers ----
 
@@ -109,47 +114,59 @@ phases_while o c g is n t valid stay s e = true_while o c g is n t valid stay s 
 
 -- ---- what links say ----
 
--- the one lane of a walkable buffer is linked
+-- each lane of a walkable buffer is linked
 pub linked_buffer : WalkableBuffersAreLinked
-linked_buffer o t valid g w = record {
-  head = w.head;
-  links = λ k q e is. (buffers_hold o t valid).links g k q e;
+linked_buffer o t valid g l w lt = record {
+  head = w.heads l lt;
+  links = λ k q e is. (buffers_hold o t valid).links g l k q e (lane_of o g l k t lt is);
   standing = λ k q e is. w.standing k q e;
 }
 
-link_same : (g q : ℕ) → lane_link (buffer_lane g) q ≡ link_behind g q
-link_same g zero = refl
-link_same g (suc n) = refl
+link_same : (o : Opening) (g l : ℕ) (t : Execution) (q : ℕ) →
+    lane_link (buffer_lane o g l t) q ≡ link_behind g l q
+link_same o g l t zero = refl
+link_same o g l t (suc n) = refl
 
-in_lane : (o : Opening) (g q : ℕ) (t : Execution) → IsLinkInto o g q t →
-    IsLaneLink o (buffer_lane g) q t
-in_lane o g q t into = ⊎_elim (λ (z : q ≡ 0). inl z)
-    (λ (z : (j : ℕ) × (role o q t ≡ InBuffer g j)). inr (z.0, z.1, (omega arith, tt))) into
+in_lane : (o : Opening) (g l q : ℕ) (t : Execution) → IsLinkInto o g l q t →
+    IsLaneLink o (buffer_lane o g l t) q t
+in_lane o g l q t into = ⊎_elim (λ (z : q ≡ 0). inl z)
+    (λ (z : (j : ℕ) × (role o q t ≡ InBuffer g j) × HasLane o g l j t).
+    inr (z.0, z.1, range_of o g l z.0 t z.2)) into
 
 pub into_buffer : LinksLeadIntoTheBuffer
-into_buffer o t valid g q w into =
-    subst (λ (y : ℕ). IsLinkInto o g y t) (ap (word o t) (link_same g q)) (⊎_elim
-    (λ (z : word o t (lane_link (buffer_lane g) q) ≡ 0). inl z)
-    (λ (z : (j : ℕ) × (role o (word o t (lane_link (buffer_lane g) q)) t ≡ InBuffer g j)
-    × IsInRange (buffer_lane g) j). inr (z.0, z.1))
-    (into_lane o (buffer_lane g) q t valid (linked_buffer o t valid g w) (in_lane o g q t into)))
+into_buffer o t valid g l q w lt into =
+    subst (λ (y : ℕ). IsLinkInto o g l y t) (ap (word o t) (link_same o g l t q)) (⊎_elim
+    (λ (z : word o t (lane_link (buffer_lane o g l t) q) ≡ 0). inl z)
+    (λ (z : (j : ℕ) × (role o (word o t (lane_link (buffer_lane o g l t) q)) t ≡ InBuffer g j)
+    × IsInRange (buffer_lane o g l t) j). inr (z.0, z.1, lane_of o g l z.0 t lt z.2))
+    (into_lane o (buffer_lane o g l t) q t valid (linked_buffer o t valid g l w lt)
+    (in_lane o g l q t into)))
 
 pub decide : LinksBeforeAKeyDecide
-decide o t valid g k q w stands =
-    let d = lane_decides o (buffer_lane g) k q t valid (linked_buffer o t valid g w) (omega arith, tt)
+decide o t valid g l k q w has stands =
+    let lane : Lane = buffer_lane o g l t in
+    let d = lane_decides o lane k q t valid (linked_buffer o t valid g l w has.is_lane)
+    (range_of o g l k t has)
     (⊎_elim (λ (z : q ≡ 0). inl z)
-    (λ (z : (j : ℕ) × (role o q t ≡ InBuffer g j) × (j < k)). inr (z.0, z.1, (omega arith, tt), z.2))
-    stands) in
-    subst (λ (z : ℕ). Decides o g k z t) (ap (word o t) (link_same g q)) (record {
+    (λ (z : (j : ℕ) × (role o q t ≡ InBuffer g j) × HasLane o g l j t × (j < k)).
+    inr (z.0, z.1, range_of o g l z.0 t z.2, z.3)) stands) in
+    subst (λ (z : ℕ). Decides o g l k z t) (ap (word o t) (link_same o g l t q)) (record {
       none = d.none;
       greater = d.greater;
       found = d.found;
-      smaller = λ j e lt. inr (j, e, lt);
+      smaller = λ j e lt. before_lane (word o t (lane_link lane q)) (d.smaller j e lt);
     })
+  where
+    before_lane : (p : ℕ) → IsLaneLinkBefore o (buffer_lane o g l t) k p t → IsLinkBefore o g l k p t
+    before_lane p is = ⊎_elim (λ (z : p ≡ 0). inl z)
+        (λ (z : (j : ℕ) × (role o p t ≡ InBuffer g j) × IsInRange (buffer_lane o g l t) j × (j < k)).
+        inr (z.0, z.1, lane_of o g l z.0 t has.is_lane z.2, z.3)) is
 
 pub rises : LinksRise
 rises o t valid g p q i j w here leads there =
-    lane_rises o (buffer_lane g) p i j t valid (linked_buffer o t valid g w) here (omega arith, tt)
+    let has = rows_have_lanes o t valid g i p here in
+    lane_rises o (buffer_lane o g has.0 t) p i j t valid
+    (linked_buffer o t valid g has.0 w has.1.is_lane) here (range_of o g has.0 i t has.1)
     (ap (λ (y : ℕ). role o y t) leads ∙ there)
 
 -- ---- what stays ----
@@ -158,7 +175,7 @@ rises o t valid g p q i j w here leads there =
 row_listed_on : (o : Opening) (t : Execution) (b : ℕ) (d : Action) (g k q : ℕ) → Valid o t →
     Allowed o t b d → (Begins g d → ⊥) → look (rows g t) k ≡ Some q →
     look (rows g (event b d ∷ t)) k ≡ Some q
-row_listed_on o t b (LinkRow h p c before next) g k q valid may never e = dite (ℕ_discrete h g)
+row_listed_on o t b (LinkRow h lane p c before next) g k q valid may never e = dite (ℕ_discrete h g)
     (λ (z : h ≡ g).
     let there = (in_use h may).standing k q (ap (λ (y : ℕ). look (rows y t) k) z ∙ e) in
     let other : k ≢ key_of c =
@@ -168,7 +185,7 @@ row_listed_on o t b (LinkRow h p c before next) g k q valid may never e = dite (
     (λ (n : h ≢ g).
     ap (λ (m : Map). look m k) (choice-other h g (put (rows g t) (key_of c) p) (rows g t) n) ∙ e)
   where
-    in_use : (i : ℕ) → Allowed o t b (LinkRow i p c before next) → IsWalkable o i t
+    in_use : (i : ℕ) → Allowed o t b (LinkRow i lane p c before next) → IsWalkable o i t
     in_use i m = ⊎_elim (λ (w : IsWalkable o i t). w)
         (λ (out : IsOutOfUse o i t). absurd (⊎_elim (λ z. out.unowned (key_of c) z)
         (λ z. out.unawaited (key_of c) z.2) m.belongs))
@@ -188,25 +205,44 @@ rows_until o g k q (x ∷ n) t valid none e =
 -- the rows of a buffer stay among those linked into it while a caller stands there
 pub rows_stay : LinkedRowsStay
 rows_stay o c g k q is n t valid stay s w e =
-    row_stays o (buffer_lane g) c k q is n t valid stay s
-    (linked_buffer o t (valid_before o n t valid) g w) (omega arith, tt) e
+    let here = w.standing k q e in
+    all_listed o (n ++ t) valid g k q (place_on o c g is q k n t valid stay s (inr here) ∙ here)
+
+-- a buffer that is walkable later has its earlier lane linked, where a caller stands in the group
+lane_later : (o : Opening) (c g l : ℕ) → IsCaller o c → (n t : Execution) → Valid o (n ++ t) →
+    StaysInside c n → stands_in c g t ≡ true → IsWalkable o g (n ++ t) → l < lanes o g t →
+    IsLinkedLane o (buffer_lane o g l t) (n ++ t)
+lane_later o c g l is n t valid stay s w lt =
+    let same : HasSameLanes o g t (n ++ t) = λ which. lanes_while o c g which is n t valid stay s in
+    subst (λ (y : Lane). IsLinkedLane o y (n ++ t)) (lane_same o g t (n ++ t) same l)
+    (linked_buffer o (n ++ t) valid g l w
+    (subst (λ (y : ℕ). l < y) (sym (same header.Lanes)) lt))
 
 pub no_return : LeftLinksDoNotComeBack
-no_return o c g q is l n t valid stay later s w into e =
-    let m : Execution = n ++ t in
-    let valid_m = valid_before o l m valid in
-    let s_m = stands_in_on c g n t stay s in
-    let w_m = walkable_while o c g is n t valid_m stay s w in
-    let w_l = walkable_while o c g is l m valid later s_m w_m in
-    let same = λ (u : Execution). ap (word o u) (link_same g q) in
+no_return o c g l q is later newer t valid stay after s w lt into e =
+    let m : Execution = newer ++ t in
+    let valid_m = valid_before o later m valid in
+    let s_m = stands_in_on c g newer t stay s in
+    let w_m = walkable_while o c g is newer t valid_m stay s w in
+    let w_l = walkable_while o c g is later m valid after s_m w_m in
+    let same_m : HasSameLanes o g t m = λ which. lanes_while o c g which is newer t valid_m stay s in
+    let last = subst (λ (y : Lane). IsLinkedLane o y (later ++ m)) (lane_same o g t m same_m l)
+    (lane_later o c g l is later m valid after s_m w_l
+    (subst (λ (y : ℕ). l < y) (sym (same_m header.Lanes)) lt)) in
+    let same = λ (u : Execution). ap (word o u) (link_same o g l t q) in
     sym (same m)
-    ∙ (lane_no_return o (buffer_lane g) c q is l n t valid stay later s
-    (linked_buffer o t (valid_before o n t valid_m) g w) (linked_buffer o m valid_m g w_m)
-    (linked_buffer o (l ++ m) valid g w_l) (in_lane o g q t into)
-    (same (l ++ m) ∙ (e ∙ sym (same t)))
+    ∙ (lane_no_return o (buffer_lane o g l t) c q is later newer t valid stay after s
+    (linked_buffer o t (valid_before o newer t valid_m) g l w lt)
+    (lane_later o c g l is newer t valid_m stay s w_m lt) last (in_lane o g l q t into)
+    (same (later ++ m) ∙ (e ∙ sym (same t)))
     ∙ same t)
 
 pub stay_before : LinksBeforeAKeyStay
-stay_before o c g k q is n t valid stay s stands = ⊎_elim (λ (z : q ≡ 0). inl z)
-    (λ (z : (j : ℕ) × (role o q t ≡ InBuffer g j) × (j < k)).
-    inr (z.0, place_on o c g is q z.0 n t valid stay s (inr z.1) ∙ z.1, z.2)) stands
+stay_before o c g l k q is n t valid stay s stands = ⊎_elim (λ (z : q ≡ 0). inl z)
+    (λ (z : (j : ℕ) × (role o q t ≡ InBuffer g j) × HasLane o g l j t × (j < k)).
+    inr (
+      z.0,
+      place_on o c g is q z.0 n t valid stay s (inr z.1) ∙ z.1,
+      has_same o g l z.0 t (n ++ t) (λ which. lanes_while o c g which is n t valid stay s) z.2,
+      z.3,
+    )) stands

@@ -29,6 +29,10 @@ pub record IsOutOfUse (o : Opening) (group : ℕ) (t : Execution) : Type 0 where
 abbrev pub IsKeyOf : Opening → ℕ → ℕ → Execution → Type 0
 IsKeyOf o group k t = IsBufferFor o k group t ⊎ (predecessor o k t ≡ Some group)
 
+-- the key is one of the group's, or the group is its new one, at whatever stage of the rebuild
+abbrev pub IsKeyAtSomeStage : Opening → ℕ → ℕ → Execution → Type 0
+IsKeyAtSomeStage o group k t = IsKeyOf o group k t ⊎ (successor k t ≡ Some group)
+
 -- the action begins this group anew
 abbrev pub Begins : ℕ → Action → Type 0
 Begins group action =

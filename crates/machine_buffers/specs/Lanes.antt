@@ -1,8 +1,8 @@
--- A buffer is a list of rows with rising keys, or several such lists, its lanes: each has a head word and a
--- key range of its own.
+-- A buffer is one to eight lists of rows with rising keys, its lanes: each has a head word and a key range of its
+-- own.
 --
 -- The fact to remember: a lane's head leads to its first row, and each of its rows to the next one.
-use Rattle.std.specs.Prelude.{◌≡◌, ◌≢◌, ◌⊎◌, ℕ, zero, suc, ◌+◌, ◌<◌, ◌≤◌, cond, nat_lt}
+use Rattle.std.specs.Prelude.{◌≡◌, ◌≢◌, ◌⊎◌, ℕ, zero, suc, ◌+◌, ◌<◌, ◌≤◌, cond, ◌==◌, nat_lt}
 use Rattle.std.specs.Prelude.{Option, Some, None, true, ◌++◌}
 use Rattle.map_model.specs.Map.{Map, first_from, look, put}
 use Rattle.word_layout.specs.declared.headers.HeaderWord.TheVariants as header
@@ -11,6 +11,7 @@ use Rattle.word_layout.specs.Words.{Header, PlaceWord, Word}
 use Rattle.index_machine.specs.declared.opening.Opening.{Opening}
 use Rattle.index_machine.specs.Execution.{Execution}
 use Rattle.index_machine.specs.Words.{word}
+use Rattle.index_machine.specs.Lanes.{cut, lanes}
 use Rattle.index_machine.specs.Rows.{InBuffer, role}
 use Rattle.index_machine.specs.Sections.{IsCaller, StaysInside}
 use Rattle.index_machine.specs.Reaching.{stands_in}
@@ -27,10 +28,20 @@ pub record Lane : Type 0 where
   pub low : ℕ
   pub end : Option ℕ
 
--- the one lane of a buffer, which has all keys
-abbrev pub buffer_lane : ℕ → Lane
-buffer_lane group =
-    record { group = group; head = Header group header.BufferHead; low = 0; end = None }
+-- the least key behind a lane of a group's buffer: the next lane's cut, if there is a next lane
+abbrev pub lane_end : Opening → ℕ → ℕ → Execution → Option ℕ
+lane_end o group lane t =
+    cond (lane + 1 == lanes o group t) None (Some (cut o group (lane + 1) t))
+
+-- a lane of a group's buffer
+abbrev pub buffer_lane : Opening → ℕ → ℕ → Execution → Lane
+buffer_lane o group lane t =
+    record {
+      group = group;
+      head = Header group (header.Head lane);
+      low = cut o group lane t;
+      end = lane_end o group lane t;
+    }
 
 -- the key stands before the end, if there is one
 abbrev pub IsBefore : ℕ → Option ℕ → Type 0

@@ -1,4 +1,7 @@
 //! What holds after every valid execution. Each function is a law and does nothing.
+ghost use Rattle.machine_buffers.specs.Cuts.{CutsAreKeys, CutsStayOfTheGroup};
+ghost use Rattle.machine_buffers.specs.Cuts.{GroupsHaveLanesForTheirKeys, NewCutsAreOfTheGroup};
+ghost use Rattle.machine_buffers.specs.Cuts.{OpeningCutsAreOfTheGroup};
 ghost use Rattle.machine_buffers.specs.Groups.{FrozenGroupsAnswer, NewGroupsAreOpen};
 ghost use Rattle.machine_buffers.specs.Groups.{OpenedGroupsAreNotNew};
 ghost use Rattle.machine_buffers.specs.Inserting.{ArraysWithoutValueStay, GapsAreAbsent};
@@ -12,7 +15,15 @@ ghost use Rattle.machine_buffers.specs.Phases.{InsertPermissionsLast, OpenedPhas
 ghost use Rattle.machine_buffers.specs.Phases.{PhasesBeforeAreTrue};
 ghost use Rattle.machine_buffers.specs.Phases.{PhasesOfKeysAreTrue};
 ghost use Rattle.machine_buffers.specs.Phases.{TruePhasesStay};
-ghost use Rattle.machine_buffers.specs.Walks.{BuffersAreWalkableOrOutOfUse};
+ghost use Rattle.machine_buffers.specs.Reclaiming.{LaneWordsStay, LinksLeadAsBefore};
+ghost use Rattle.machine_buffers.specs.Reclaiming.{NoneIsLinkedOutOfUse, RowsStandUntilRetired};
+ghost use Rattle.machine_buffers.specs.Reclaiming.{WalkableBuffersHaveLaneWords};
+ghost use Rattle.machine_buffers.specs.Reclaiming.{WholeLanesStayLinked};
+ghost use Rattle.machine_buffers.specs.Walks.{BuffersAreWalkableOrOutOfUse, CutsRise};
+ghost use Rattle.machine_buffers.specs.Walks.{LanesAreInOrder, LanesHaveNoGaps};
+ghost use Rattle.machine_buffers.specs.Walks.{LinkedRowsHaveLanes};
+ghost use Rattle.machine_buffers.specs.Walks.{KeysOfGroupsHaveLanes, LanesAreApart};
+ghost use Rattle.machine_buffers.specs.Walks.{LanesStay, LanesStayUntilBegun, RowsHaveLanes};
 ghost use Rattle.machine_buffers.specs.Walks.{BuffersBeforeAreWalkable, BuffersOfKeysAreWalkable};
 ghost use Rattle.machine_buffers.specs.Walks.{KeysOfRowsRise};
 ghost use Rattle.machine_buffers.specs.Walks.{LeftLinksDoNotComeBack, LinkedRowsStay};
@@ -55,7 +66,77 @@ pub fn left_lane_links_do_not_come_back()
     ensures { LeftLaneLinksDoNotComeBack }
 {}
 
-/// The link of a row leads to the row with the next key among those linked into its buffer.
+/// The cuts of a buffer's lanes rise, and it has at most eight lanes.
+pub fn cuts_rise()
+    ensures { CutsRise }
+{}
+
+/// A key of a later lane is greater.
+pub fn lanes_are_in_order()
+    ensures { LanesAreInOrder }
+{}
+
+/// No key is in two lanes of one buffer.
+pub fn lanes_are_apart()
+    ensures { LanesAreApart }
+{}
+
+/// A key between two keys of a lane is in the lane.
+pub fn lanes_have_no_gaps()
+    ensures { LanesHaveNoGaps }
+{}
+
+/// Each key of a group is in one of the lanes of its buffer.
+pub fn keys_of_groups_have_lanes()
+    ensures { KeysOfGroupsHaveLanes }
+{}
+
+/// The key of each row is in a lane of its buffer.
+pub fn rows_have_lanes()
+    ensures { RowsHaveLanes }
+{}
+
+/// So is that of each row that was linked, also where it was taken out again.
+pub fn linked_rows_have_lanes()
+    ensures { LinkedRowsHaveLanes }
+{}
+
+/// A group with a key has one to eight lanes, the first of which begins at its least key or below.
+pub fn groups_have_lanes_for_their_keys()
+    ensures { GroupsHaveLanesForTheirKeys }
+{}
+
+/// Each cut is a key.
+pub fn cuts_are_keys()
+    ensures { CutsAreKeys }
+{}
+
+/// The cuts of a group that was just begun are keys of its range.
+pub fn new_cuts_are_of_the_group()
+    ensures { NewCutsAreOfTheGroup }
+{}
+
+/// The cuts of the opening are keys of their group.
+pub fn opening_cuts_are_of_the_group()
+    ensures { OpeningCutsAreOfTheGroup }
+{}
+
+/// Cuts stay keys of their group until this is out of use, unless another group is begun over one.
+pub fn cuts_stay_of_the_group()
+    ensures { CutsStayOfTheGroup }
+{}
+
+/// The lanes of a buffer stay as they are until its group is begun anew.
+pub fn lanes_stay_until_begun()
+    ensures { LanesStayUntilBegun }
+{}
+
+/// So they do while a caller stands in the group.
+pub fn lanes_stay()
+    ensures { LanesStay }
+{}
+
+/// The link of a row leads to the row with the next key among those linked into its lane.
 pub fn links_lead_to_the_next_row()
     ensures { LinksLeadToTheNextRow }
 {}
@@ -90,8 +171,8 @@ pub fn buffers_are_walkable_or_out_of_use()
     ensures { BuffersAreWalkableOrOutOfUse }
 {}
 
-/// A walk meets the rows of a group that answers for a key, or that is a key's new group: its head
-/// leads to the first row, and all rows that were linked stand there.
+/// A walk meets the rows of a group that answers for a key, or that is a key's new group: the head of
+/// each lane leads to its first row, and all rows that were linked stand there.
 pub fn buffers_of_keys_are_walkable()
     ensures { BuffersOfKeysAreWalkable }
 {}
@@ -106,22 +187,23 @@ pub fn old_buffers_are_walkable()
     ensures { OldBuffersAreWalkable }
 {}
 
-/// A buffer stays walkable, whoever stands there, until a row is taken out of it or its head refilled.
+/// A buffer stays walkable, whoever stands there, until a row is taken out of it or a word of
+/// its lanes is refilled.
 pub fn whole_buffers_stay_walkable()
     ensures { WholeBuffersStayWalkable }
 {}
 
-/// A walkable buffer is one lane, with all keys, whose rows are linked from its head.
+/// In each lane of a walkable buffer the rows are linked from its head.
 pub fn walkable_buffers_are_linked()
     ensures { WalkableBuffersAreLinked }
 {}
 
-/// A buffer is not taken apart, nor its head refilled, while a caller stands in the group.
+/// A buffer is not taken apart, nor its lanes refilled, while a caller stands in the group.
 pub fn walkable_buffers_stay()
     ensures { WalkableBuffersStay }
 {}
 
-/// A link leads to a row of its buffer, or to none.
+/// A link of a lane leads to a row of the lane, or to none.
 pub fn links_lead_into_the_buffer()
     ensures { LinksLeadIntoTheBuffer }
 {}
@@ -144,6 +226,37 @@ pub fn left_links_do_not_come_back()
 /// A walk may go on from a link before the key, whatever others link meanwhile.
 pub fn links_before_a_key_stay()
     ensures { LinksBeforeAKeyStay }
+{}
+
+/// The header of a walkable buffer has its lanes' words.
+pub fn walkable_buffers_have_lane_words()
+    ensures { WalkableBuffersHaveLaneWords }
+{}
+
+/// The words of lanes lead to what was linked until one is refilled, whatever is taken out.
+pub fn lane_words_stay()
+    ensures { LaneWordsStay }
+{}
+
+/// A lane stays linked until a row of it is taken out, its head refilled, or its group begun anew.
+pub fn whole_lanes_stay_linked()
+    ensures { WholeLanesStayLinked }
+{}
+
+/// A row stands in its buffer until it is taken out itself.
+pub fn rows_stand_until_retired()
+    ensures { RowsStandUntilRetired }
+{}
+
+/// No row is linked into the buffer of a group that is out of use.
+pub fn none_is_linked_out_of_use()
+    ensures { NoneIsLinkedOutOfUse }
+{}
+
+/// While the rows of a group that is out of use are taken out, each head leads to the first row that
+/// its lane had, and each row that still stands there to the one that was next.
+pub fn links_lead_as_before()
+    ensures { LinksLeadAsBefore }
 {}
 
 /// A frozen group answers for a key.

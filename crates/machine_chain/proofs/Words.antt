@@ -41,13 +41,7 @@ next_header : (o : Opening) (t : Execution) (b h g v : ℕ) (which : HeaderWord)
 next_header o t b h g v header.Next = dite (ℕ_discrete h g)
     (λ (z : h ≡ g). inr (inl (v, ap (λ (y : ℕ). StoreHeader y header.Next v) z)))
     (λ (n : h ≢ g). inl (rw (ne_eqb h g n) refl))
-next_header o t b h g v header.Pivot = inl (never (h == g) v (next_of o g t))
-next_header o t b h g v header.Size = inl (never (h == g) v (next_of o g t))
-next_header o t b h g v header.LineError = inl (never (h == g) v (next_of o g t))
-next_header o t b h g v header.BufferHead = inl (never (h == g) v (next_of o g t))
-next_header o t b h g v header.Phase = inl (never (h == g) v (next_of o g t))
-next_header o t b h g v header.FirstSpare = inl (never (h == g) v (next_of o g t))
-next_header o t b h g v header.SecondSpare = inl (never (h == g) v (next_of o g t))
+next_header o t b h g v which = inl (never (h == g) v (next_of o g t))
 
 pub next_kept : (o : Opening) (t : Execution) (b : ℕ) (d : Action) (g : ℕ) →
     (next_of o g (event b d ∷ t) ≡ next_of o g t) ⊎ ChangesNext g d
@@ -55,8 +49,8 @@ next_kept o t b (Freeze h) g = inl (never (h == g) _ (next_of o g t))
 next_kept o t b (Thaw h) g = inl (never (h == g) _ (next_of o g t))
 next_kept o t b (StoreOpened h f) g = inl (never (h == g) _ (next_of o g t))
 next_kept o t b (NewGroup h low high f) g = inl (never (h == g) _ (next_of o g t))
-next_kept o t b (LinkRow h place change zero next) g = inl (never (h == g) _ (next_of o g t))
-next_kept o t b (LinkRow h place change (suc n) next) g = inl refl
+next_kept o t b (LinkRow h lane place change zero next) g = inl (never (h == g) _ (next_of o g t))
+next_kept o t b (LinkRow h lane place change (suc n) next) g = inl refl
 next_kept o t b (StoreHeader h which v) g = next_header o t b h g v which
 next_kept o t b (Install (NextOf left) lead low high) g = dite (ℕ_discrete left g)
     (λ (z : left ≡ g).
@@ -95,21 +89,15 @@ pivot_header : (o : Opening) (t : Execution) (b h g v : ℕ) (which : HeaderWord
 pivot_header o t b h g v header.Pivot = dite (ℕ_discrete h g)
     (λ (z : h ≡ g). inr (inl (v, ap (λ (y : ℕ). StoreHeader y header.Pivot v) z)))
     (λ (n : h ≢ g). inl (rw (ne_eqb h g n) refl))
-pivot_header o t b h g v header.Next = inl (never (h == g) v (pivot_of o g t))
-pivot_header o t b h g v header.Size = inl (never (h == g) v (pivot_of o g t))
-pivot_header o t b h g v header.LineError = inl (never (h == g) v (pivot_of o g t))
-pivot_header o t b h g v header.BufferHead = inl (never (h == g) v (pivot_of o g t))
-pivot_header o t b h g v header.Phase = inl (never (h == g) v (pivot_of o g t))
-pivot_header o t b h g v header.FirstSpare = inl (never (h == g) v (pivot_of o g t))
-pivot_header o t b h g v header.SecondSpare = inl (never (h == g) v (pivot_of o g t))
+pivot_header o t b h g v which = inl (never (h == g) v (pivot_of o g t))
 
 pub pivot_kept : (o : Opening) (t : Execution) (b : ℕ) (d : Action) (g : ℕ) →
     (pivot_of o g (event b d ∷ t) ≡ pivot_of o g t) ⊎ ChangesPivot g d
 pivot_kept o t b (Freeze h) g = inl (never (h == g) _ (pivot_of o g t))
 pivot_kept o t b (Thaw h) g = inl (never (h == g) _ (pivot_of o g t))
 pivot_kept o t b (StoreOpened h f) g = inl (never (h == g) _ (pivot_of o g t))
-pivot_kept o t b (LinkRow h place change zero next) g = inl (never (h == g) _ (pivot_of o g t))
-pivot_kept o t b (LinkRow h place change (suc n) next) g = inl refl
+pivot_kept o t b (LinkRow h lane place change zero next) g = inl (never (h == g) _ (pivot_of o g t))
+pivot_kept o t b (LinkRow h lane place change (suc n) next) g = inl refl
 pivot_kept o t b (StoreHeader h which v) g = pivot_header o t b h g v which
 pivot_kept o t b (NewGroup h low high f) g = dite (ℕ_discrete h g)
     (λ (z : h ≡ g). inr (inr (low, high, f, ap (λ (y : ℕ). NewGroup y low high f) z)))
@@ -164,8 +152,8 @@ slot_pivot_kept o t b (StoreUnusedPivot s j v) side i = dite (ℕ_discrete s sid
     inr (v, ap (λ (x : ℕ). StoreUnusedPivot x j v) z ∙ ap (λ (x : ℕ). StoreUnusedPivot side x v) y))
     (λ (n : j ≢ i). inl (rw (ne_eqb j i n) (never (s == side) v (word o t (SlotPivot side i))))))
     (λ (n : s ≢ side). inl (rw (ne_eqb s side n) refl))
-slot_pivot_kept o t b (LinkRow h place change zero next) side i = inl refl
-slot_pivot_kept o t b (LinkRow h place change (suc n) next) side i = inl refl
+slot_pivot_kept o t b (LinkRow h lane place change zero next) side i = inl refl
+slot_pivot_kept o t b (LinkRow h lane place change (suc n) next) side i = inl refl
 slot_pivot_kept o t b (Install (NextOf left) lead low high) side i = inl refl
 slot_pivot_kept o t b (Install (FirstSlot s) lead low high) side i = inl refl
 slot_pivot_kept o t b d side i = inl refl

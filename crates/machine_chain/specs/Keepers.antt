@@ -1,18 +1,23 @@
 -- What the keeper may conclude of the chain and of rebuilds under way.
 use Rattle.std.specs.Prelude.{◌≡◌, ◌≢◌, ℕ, ◌+◌, ◌<◌, ◌≤◌, ◌++◌, [], ◌∷◌}
+use Rattle.word_layout.specs.declared.headers.HeaderWord.{HeaderWord}
+use Rattle.word_layout.specs.declared.headers.HeaderWord.TheVariants as header
 use Rattle.word_layout.specs.declared.phase.Phase.TheVariants.{Opened}
+use Rattle.word_layout.specs.Words.{Header}
 use Rattle.index_machine.specs.declared.events.Action.{Action}
 use Rattle.index_machine.specs.declared.events.Action.TheVariants.{Install, StoreOpened}
 use Rattle.index_machine.specs.declared.events.InstallWord.{InstallWord}
 use Rattle.index_machine.specs.declared.opening.Opening.{Opening}
 use Rattle.index_machine.specs.Execution.{Execution, Without, event}
-use Rattle.index_machine.specs.Words.{limits}
+use Rattle.index_machine.specs.Lanes.{begun_word}
+use Rattle.index_machine.specs.Words.{limits, word}
 use Rattle.index_machine.specs.Openings.{greatest_key}
 use Rattle.index_machine.specs.Sections.{IsKeeper}
 use Rattle.index_machine.specs.Groups.{IsInUse, phase, rebuild, root, slot}
 use Rattle.index_machine.specs.KeyRanges.{group_of, predecessor, successor}
 use Rattle.index_machine.specs.RebuildConditions.{IsNextWord}
 use Rattle.index_machine.specs.Conditions.{Valid}
+use Rattle.machine_buffers.specs.Groups.{IsOfAKey}
 use Rattle.machine_chain.specs.Chain.{next_of, pivot_of}
 use Rattle.machine_chain.specs.Walks.{slot_pivot}
 
@@ -38,8 +43,13 @@ pub record EndsWhere (o : Opening) (group k : ℕ) (t : Execution) : Type 0 wher
       (i : ℕ) × (k ≤ i) × (i < greatest_key) × (pivot_of o n t ≡ i + 1)
       × (group_of o (i + 1) t ≡ n) × ((m : ℕ) → k ≤ m → m ≤ i → group_of o m t ≡ group)
 
--- the key ranges, the phases, the root, and the words that lead through them are the same at the
--- later execution
+-- the header word is the head of a lane
+abbrev pub IsHeadWord : HeaderWord → Type 0
+IsHeadWord (header.Head lane) = Unit {0}
+IsHeadWord _ = ⊥
+
+-- the key ranges, the phases, the root, the lanes with which groups were begun, and the words that lead through
+-- them are the same at the later execution; so are all words of headers, but for heads where callers may insert
 pub record IsSameStructure (o : Opening) (earlier later : Execution) : Type 0 where
   pub groups : (k : ℕ) → group_of o k later ≡ group_of o k earlier
   pub news : (k : ℕ) → successor k later ≡ successor k earlier
@@ -51,6 +61,13 @@ pub record IsSameStructure (o : Opening) (earlier later : Execution) : Type 0 wh
   pub nexts : (group : ℕ) → next_of o group later ≡ next_of o group earlier
   pub pivots : (group : ℕ) → pivot_of o group later ≡ pivot_of o group earlier
   pub slot_pivots : (side i : ℕ) → slot_pivot o side i later ≡ slot_pivot o side i earlier
+  pub begun_words : (group : ℕ) (which : HeaderWord) →
+      begun_word o group which later ≡ begun_word o group which earlier
+  pub header_words : (group : ℕ) (which : HeaderWord) → (IsHeadWord which → ⊥) →
+      word o later (Header group which) ≡ word o earlier (Header group which)
+  pub head_words : (group lane : ℕ) → (IsOfAKey o group earlier → ⊥) →
+      word o later (Header group (header.Head lane))
+      ≡ word o earlier (Header group (header.Head lane))
 
 -- ---- the laws, over all executions ----
 

@@ -10,7 +10,7 @@ use Rattle.index_machine.specs.Conditions.{Valid}
 use Rattle.machine_chain.specs.Chain.{pivot_of}
 use Rattle.machine_chain.specs.Walks.{AnswersFor, BeginsBefore, slot_pivot}
 
--- the caller made this load at the earlier execution, and its read section goes on
+-- the newer events lead from the one execution to the other, and the caller's read section goes on over them
 abbrev pub GoesOnFrom : ℕ → Execution → Execution → Execution → Type 0
 GoesOnFrom caller loaded newer now = (newer ++ loaded ≡ now) × StaysInside caller newer
 

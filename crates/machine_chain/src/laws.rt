@@ -173,7 +173,8 @@ pub fn new_answers_are_behind()
     ensures { NewAnswersAreBehind }
 {}
 
-/// The keeper alone changes key ranges, phases, the root, and the words that lead through them.
+/// The keeper alone changes key ranges, phases, the root, the words that lead through them, the lanes with
+/// which groups are begun, and the words of headers, but for the heads of groups that have keys.
 pub fn keepers_alone_change_structure()
     ensures { KeepersAloneChangeStructure }
 {}

@@ -75,7 +75,7 @@ pub rows_final : (o : Opening) (t : Execution) (b : ℕ) (d : Action) (g k q : �
     ((c : ℕ) → IsCaller o c → MayInsertInto c g t → ⊥) → role o q (event b d ∷ t) ≡ InBuffer g k →
     role o q t ≡ InBuffer g k
 rows_final o t b d g k q may none e = ⊎_elim (λ (z : role o q t ≡ InBuffer g k). z)
-    (λ (z : IsLinkOf g q k d). let m = may_as o t b d (LinkRow g q z.0 z.1 z.2) z.3 may in
+    (λ (z : IsLinkOf g q k d). let m = may_as o t b d (LinkRow g z.lane q z.change z.before z.next) z.is may in
     absurd (none b m.caller m.permission)) (row_back o t b d q g k e)
 
 -- the live place of a key has its redirect, if each old place of the key is removed or has its

@@ -127,10 +127,10 @@ map_agrees_unlock o t b p r d raised may old k = dite (ℕ_discrete (key_of d) k
           keyed,
         )) (old k))
 
-map_agrees_link : (o : Opening) (t : Execution) (b g p : ℕ) (d : Change) (prior next : ℕ) →
-    MayLink o t b g p d prior next → MapAgrees o t →
-    MapAgrees o (event b (LinkRow g p d prior next) ∷ t)
-map_agrees_link o t b g p d prior next may old k = dite (ℕ_discrete (key_of d) k)
+map_agrees_link : (o : Opening) (t : Execution) (b g lane p : ℕ) (d : Change) (prior next : ℕ) →
+    MayLink o t b g lane p d prior next → MapAgrees o t →
+    MapAgrees o (event b (LinkRow g lane p d prior next) ∷ t)
+map_agrees_link o t b g lane p d prior next may old k = dite (ℕ_discrete (key_of d) k)
     (λ (z : key_of d ≡ k). subst (HasLiveValue o T k)
     (sym (choice-same (key_of d) k (Some p) (live_place o k t) z)) (
       may.value,
@@ -140,7 +140,7 @@ map_agrees_link o t b g p d prior next may old k = dite (ℕ_discrete (key_of d)
     ))
     (λ (n : key_of d ≢ k). subst (HasLiveValue o T k)
     (sym (choice-other (key_of d) k (Some p) (live_place o k t) n))
-    (keep o t b (LinkRow g p d prior next) k (live_place o k t) (value-else o t d k n)
+    (keep o t b (LinkRow g lane p d prior next) k (live_place o k t) (value-else o t d k n)
     (λ q x h l keyed. (
       form_else o t p q x (Unlocked (first_version o) false (put_value d))
           (λ z. keyless p q k o t (HeldBy b) may.mine refl z keyed) l,
@@ -148,7 +148,7 @@ map_agrees_link o t b g p d prior next may old k = dite (ℕ_discrete (key_of d)
     )) (old k)))
   where
     T : Execution
-    T = event b (LinkRow g p d prior next) ∷ t
+    T = event b (LinkRow g lane p d prior next) ∷ t
 
     now : live_value (form o p T) ≡ Some may.value
     now = ap live_value (choice-same p p (Unlocked (first_version o) false (put_value d))
@@ -215,8 +215,8 @@ map_agrees_step : (o : Opening) (t : Execution) (b : ℕ) (d : Action) → Allow
     OnlyLive o t → MapAgrees o t → MapAgrees o (event b d ∷ t)
 map_agrees_step o t b (Unlock p r d raised) may one old =
     map_agrees_unlock o t b p r d raised may.1 old
-map_agrees_step o t b (LinkRow g p d prior next) may one old =
-    map_agrees_link o t b g p d prior next may old
+map_agrees_step o t b (LinkRow g lane p d prior next) may one old =
+    map_agrees_link o t b g lane p d prior next may old
 map_agrees_step o t b (StoreDirect a p j r raised) may one old =
     map_agrees_direct o t b a p j r raised may one old
 map_agrees_step o t b (PopFree p next) may one old = λ k.

@@ -108,7 +108,7 @@ legal_step o t b (Unlock p r d raised) valid may old =
       ),
       (subst (IsCaller o) (sym (by_maker b m.was r m.value d m.makes)) may.0, old.1),
     )
-legal_step o t b (LinkRow g q d prior next) valid may old = (
+legal_step o t b (LinkRow g lane q d prior next) valid may old = (
   (linked_follows b may.value d (after (opening_map o) (history t)) may.makes, old.0),
   (subst (IsCaller o) (sym (by_maker b false false may.value d may.makes)) may.caller, old.1),
 )

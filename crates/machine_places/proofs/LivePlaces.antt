@@ -201,9 +201,9 @@ module _ (o : Opening) (t : Execution) (b : ℕ) (a : MapAgrees o t) (old : Live
           inr (inl (z.0, z.1, z.2 ∙ ap (λ (y : ℕ). InArray y k) (sym same), z.3)))
           (may.merged k h p is m.3 e)
 
-  linked : (g p : ℕ) (d : Change) (prior next : ℕ) → MayLink o t b g p d prior next →
-      LivePlacesStand o (event b (LinkRow g p d prior next) ∷ t)
-  linked g p d prior next may k q e = dite (ℕ_discrete (key_of d) k)
+  linked : (g lane p : ℕ) (d : Change) (prior next : ℕ) → MayLink o t b g lane p d prior next →
+      LivePlacesStand o (event b (LinkRow g lane p d prior next) ∷ t)
+  linked g lane p d prior next may k q e = dite (ℕ_discrete (key_of d) k)
       (λ (z : key_of d ≡ k). let same : p ≡ q =
       some_is (sym (choice-same (key_of d) k (Some p) (live_place o k t) z) ∙ e) in
       subst (λ (y : ℕ). IsPlaceOf o T k y) same
@@ -215,7 +215,7 @@ module _ (o : Opening) (t : Execution) (b : ℕ) (a : MapAgrees o t) (old : Live
       ))))
       (λ (n : key_of d ≢ k). let e' : live_place o k t ≡ Some q =
       sym (choice-other (key_of d) k (Some p) (live_place o k t) n) ∙ e in
-      carry o t b (LinkRow g p d prior next) k q a refl
+      carry o t b (LinkRow g lane p d prior next) k q a refl
       (λ r _ keyed. role_set o t p r k (InBuffer g (key_of d)) (HeldBy b) may.mine refl keyed)
       (λ r s y h f _. (
         y,
@@ -226,7 +226,7 @@ module _ (o : Opening) (t : Execution) (b : ℕ) (a : MapAgrees o t) (old : Live
       (λ g s. s) e' (old k q e'))
     where
       T : Execution
-      T = event b (LinkRow g p d prior next) ∷ t
+      T = event b (LinkRow g lane p d prior next) ∷ t
 
   unlock : (one : OnlyLive o t) (p : ℕ) (r : Bool) (d : Change) (raised : ℕ) →
       MayUnlock o t b p r d → LivePlacesStand o (event b (Unlock p r d raised) ∷ t)
@@ -319,7 +319,8 @@ module _ (o : Opening) (t : Execution) (b : ℕ) (a : MapAgrees o t) (old : Live
   live_places_stand_step : (one : OnlyLive o t) (d : Action) → Allowed o t b d →
       LivePlacesStand o (event b d ∷ t)
   live_places_stand_step one (Install spot lead low high) may = installed spot lead low high may
-  live_places_stand_step one (LinkRow g p d prior next) may = linked g p d prior next may
+  live_places_stand_step one (LinkRow g lane p d prior next) may =
+      linked g lane p d prior next may
   live_places_stand_step one (Unlock p r d raised) may = unlock one p r d raised may.1
   live_places_stand_step one (StoreDirect c p j r raised) may = directed c p j r raised may
   live_places_stand_step one (NewGroup g low high f) may = begun g low high f may

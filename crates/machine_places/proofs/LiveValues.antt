@@ -74,10 +74,10 @@ only_live_unlock o t b p r d raised may old q k x keyed alive = dite (ℕ_discre
             (ap live_value may.holds ∙ ap (λ (y : Bool). unless y may.before) e) in
             n (some_is (sym mine ∙ (ap (λ (y : ℕ). live_place o y t) z ∙ before)))
 
-only_live_link : (o : Opening) (t : Execution) (b g p : ℕ) (d : Change) (prior next : ℕ) →
-    MayLink o t b g p d prior next → OnlyLive o t →
-    OnlyLive o (event b (LinkRow g p d prior next) ∷ t)
-only_live_link o t b g p d prior next may old q k x keyed alive = dite (ℕ_discrete p q)
+only_live_link : (o : Opening) (t : Execution) (b g lane p : ℕ) (d : Change) (prior next : ℕ) →
+    MayLink o t b g lane p d prior next → OnlyLive o t →
+    OnlyLive o (event b (LinkRow g lane p d prior next) ∷ t)
+only_live_link o t b g lane p d prior next may old q k x keyed alive = dite (ℕ_discrete p q)
     (λ (z : p ≡ q). let same : key_of d ≡ k =
     some_is (ap role_key (sym (choice-same p q (InBuffer g (key_of d)) (role o q t) z)) ∙ keyed) in
     choice-same (key_of d) k (Some p) (live_place o k t) same ∙ ap Some z)
@@ -168,8 +168,8 @@ only_live_step o t b (StoreMoved p) may old = λ q k x e l. dite (ℕ_discrete p
     (λ (z : p ≡ q). none_some (ap live_value (sym (choice-same p q Moved (form o q t) z)) ∙ l))
     (λ (n : p ≢ q). old q k x e (ap live_value (sym (choice-other p q Moved (form o q t) n)) ∙ l))
 only_live_step o t b (Unlock p r d raised) may old = only_live_unlock o t b p r d raised may.1 old
-only_live_step o t b (LinkRow g p d prior next) may old =
-    only_live_link o t b g p d prior next may old
+only_live_step o t b (LinkRow g lane p d prior next) may old =
+    only_live_link o t b g lane p d prior next may old
 only_live_step o t b (StoreDirect a p j r raised) may old =
     only_live_direct o t b a p j r raised may old
 only_live_step o t b d may old = old

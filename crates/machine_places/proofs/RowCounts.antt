@@ -131,7 +131,7 @@ IsLinkedOrRetired o p t = is_linked_or_retired (limits o).callers (role o p t) �
 
 -- a row in a buffer or retired was so before, unless it is linked now
 linked_before : (o : Opening) (t : Execution) (b : ℕ) (d : Action) → Allowed o t b d → (p : ℕ) →
-    ((g q : ℕ) (c : Change) (prior next : ℕ) → d ≡ LinkRow g q c prior next → p ≢ q) →
+    ((g lane q : ℕ) (c : Change) (prior next : ℕ) → d ≡ LinkRow g lane q c prior next → p ≢ q) →
     IsLinkedOrRetired o p (event b d ∷ t) → IsLinkedOrRetired o p t
 linked_before o t b (PopFree q next) may p not_it e =
     let caller = may.0.caller in
@@ -140,9 +140,9 @@ linked_before o t b (PopFree q next) may p not_it e =
     (λ z s. not_so (sym (ne_eqb b (limits o).callers differ) ∙ s)) e
 linked_before o t b (PushFree q head) may p not_it e =
     set_back (limits o).callers q p Unused (role o p t) (λ z s. not_so s) e
-linked_before o t b (LinkRow g q c prior next) may p not_it e =
+linked_before o t b (LinkRow g lane q c prior next) may p not_it e =
     set_back (limits o).callers q p (InBuffer g (key_of c)) (role o p t)
-    (λ z s. absurd (not_it g q c prior next refl (sym z))) e
+    (λ z s. absurd (not_it g lane q c prior next refl (sym z))) e
 linked_before o t b (Retire q next) may p not_it e =
     let w = may.where_it_is in
     set_back (limits o).callers q p (HeldBy b) (role o p t)
@@ -158,27 +158,27 @@ linked_before o t b d may p not_it e = e
 
 -- the count after an action that links no row
 kept_step : (o : Opening) (t : Execution) (b : ℕ) (d : Action) → Allowed o t b d →
-    ((g q : ℕ) (c : Change) (prior next : ℕ) → d ≡ LinkRow g q c prior next → ⊥) →
+    ((g lane q : ℕ) (c : Change) (prior next : ℕ) → d ≡ LinkRow g lane q c prior next → ⊥) →
     linked_or_retired o (event b d ∷ t) ≤ linked_or_retired o t
 kept_step o t b d may none =
     count_kept (λ p. is_linked_or_retired (limits o).callers (role o p t))
     (λ p. is_linked_or_retired (limits o).callers (role o p (event b d ∷ t))) (all_rows o)
-    (λ p i. linked_before o t b d may p (λ g q c prior next z. absurd (none g q c prior next z)))
+    (λ p i. linked_before o t b d may p (λ g lane q c prior next z. absurd (none g lane q c prior next z)))
 
 -- and after one that does
-linked_step : (o : Opening) (t : Execution) (b g q : ℕ) (c : Change) (prior next : ℕ) →
-    MayLink o t b g q c prior next →
-    linked_or_retired o (event b (LinkRow g q c prior next) ∷ t) ≤ linked_or_retired o t + 1
-linked_step o t b g q c prior next may =
+linked_step : (o : Opening) (t : Execution) (b g lane q : ℕ) (c : Change) (prior next : ℕ) →
+    MayLink o t b g lane q c prior next →
+    linked_or_retired o (event b (LinkRow g lane q c prior next) ∷ t) ≤ linked_or_retired o t + 1
+linked_step o t b g lane q c prior next may =
     count_once (λ p. is_linked_or_retired (limits o).callers (role o p t))
     (λ p. is_linked_or_retired (limits o).callers
-    (role o p (event b (LinkRow g q c prior next) ∷ t)))
+    (role o p (event b (LinkRow g lane q c prior next) ∷ t)))
     q (all_rows o) (rows-distinct (limits o) 0 (limits o).records)
-    (λ p n. linked_before o t b (LinkRow g q c prior next) may p
-    (λ h r e prior' next' z w. n (w ∙ sym (linked_row z))))
+    (λ p n. linked_before o t b (LinkRow g lane q c prior next) may p
+    (λ h side r e prior' next' z w. n (w ∙ sym (linked_row z))))
   where
-    linked_row : {h r : ℕ} {e : Change} {prior' next' : ℕ} →
-        LinkRow g q c prior next ≡ LinkRow h r e prior' next' → q ≡ r
+    linked_row : {h side r : ℕ} {e : Change} {prior' next' : ℕ} →
+        LinkRow g lane q c prior next ≡ LinkRow h side r e prior' next' → q ≡ r
     linked_row e = cc
 
 -- the history has as many inserting changes
@@ -187,7 +187,7 @@ IsCovered o t = linked_or_retired o t ≤ inserts (opening_map o) (history t)
 
 covered_step : (o : Opening) (t : Execution) (b : ℕ) (d : Action) → Valid o t → Allowed o t b d →
     IsCovered o t → IsCovered o (event b d ∷ t)
-covered_step o t b (LinkRow g q d prior next) valid may old =
+covered_step o t b (LinkRow g lane q d prior next) valid may old =
     let m : Map = after (opening_map o) (history t) in
     let none : look m (key_of d) ≡ None =
     subst (HasLiveValue o t (key_of d)) may.not_live_elsewhere (agreement o t valid (key_of d)) in
@@ -195,14 +195,14 @@ covered_step o t b (LinkRow g q d prior next) valid may old =
     let n : ℕ = inserts (opening_map o) (history t) in
     let more : inserts (opening_map o) (d ∷ history t) ≡ n + 1 =
     ap (λ (x : Bool). cond x (n + 1) n) new in
-    let one = linked_step o t b g q d prior next may in
+    let one = linked_step o t b g lane q d prior next may in
     omega (arith, old, more, one)
 covered_step o t b (Unlock p r d raised) valid may old =
-    let same = kept_step o t b (Unlock p r d raised) may (λ g q c prior next z. let bad = z in cc) in
+    let same = kept_step o t b (Unlock p r d raised) may (λ g lane q c prior next z. let bad = z in cc) in
     let more = inserts_grow (opening_map o) d (history t) in
     omega (arith, old, same, more)
 covered_step o t b d valid may old =
-    let same = kept_step o t b d may (λ g q c prior next z. let bad = z in cc) in
+    let same = kept_step o t b d may (λ g lane q c prior next z. let bad = z in cc) in
     omega (arith, old, same)
 
 -- from a count that stands at the opening

@@ -45,7 +45,7 @@ in_group_back o t b d g k p s = ⊎_elim
     (array_back o t b d p g k z))
     (λ (z : role o p (event b d ∷ t) ≡ InBuffer g k). ⊎_elim
     (λ (w : role o p t ≡ InBuffer g k). inl (inr w))
-    (λ (w : IsLinkOf g p k d). inr (inl (w, linked_kind o t b d g p w.0 w.1 w.2 w.3)))
+    (λ (w : IsLinkOf g p k d). inr (inl (w, linked_kind o t b d g w.lane p w.change w.before w.next w.is)))
     (row_back o t b d p g k z)) s
 
 array_of_new : (g k : ℕ) (r : Role) → emptied g r ≡ InArray g k → ⊥
@@ -230,8 +230,8 @@ belongs_step o t b d may old g k p s e =
     × (kind (form o p (event b d ∷ t)) ≡ Forward))). ⊎_elim
     (λ (z : IsLinkOf g p k d × (kind (form o p (event b d ∷ t)) ≡ Direct)).
     let w = z.0 in
-    let m = may_as o t b d (LinkRow g p w.0 w.1 w.2) w.3 may in
-    subst (λ (i : ℕ). IsBufferFor o i g t) w.4 m.belongs)
+    let m = may_as o t b d (LinkRow g w.lane p w.change w.before w.next) w.is may in
+    subst (λ (i : ℕ). IsBufferFor o i g t) w.key m.belongs)
     (λ (z : (to : ℕ) × (d ≡ StoreRedirect g p k to)
     × (kind (form o p (event b d ∷ t)) ≡ Forward)).
     let m = may_as o t b d (StoreRedirect g p k z.0) z.1 may in

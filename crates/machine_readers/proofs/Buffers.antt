@@ -24,17 +24,17 @@ look_if : (b : Bool) (m n : Map) (k q : ℕ) → look m k ≡ Some q → look n 
 look_if true m n k q e f = e
 look_if false m n k q e f = f
 
-link_is : {g h q p u v x y : ℕ} {c d : Change} → LinkRow h q c u v ≡ LinkRow g p d x y →
+link_is : {g h l m q p u v x y : ℕ} {c d : Change} → LinkRow h l q c u v ≡ LinkRow g m p d x y →
     (h ≡ g) × (q ≡ p) × (c ≡ d)
 link_is e = (cc, cc, cc)
 
-listed_link : (o : Opening) (t : Execution) (b h q : ℕ) (d : Change) (prior next : ℕ) →
-    Allowed o t b (LinkRow h q d prior next) → RowsAreListed o t →
-    RowsAreListed o (event b (LinkRow h q d prior next) ∷ t)
-listed_link o t b h q d prior next may old g k p e =
+listed_link : (o : Opening) (t : Execution) (b h lane q : ℕ) (d : Change) (prior next : ℕ) →
+    Allowed o t b (LinkRow h lane q d prior next) → RowsAreListed o t →
+    RowsAreListed o (event b (LinkRow h lane q d prior next) ∷ t)
+listed_link o t b h lane q d prior next may old g k p e =
     ⊎_elim (λ (z : role o p t ≡ InBuffer g k). before z)
-    (λ (z : IsLinkOf g p k (LinkRow h q d prior next)). here z.0 z.1 z.2 z.3 z.4)
-    (row_back o t b (LinkRow h q d prior next) p g k e)
+    (λ (z : IsLinkOf g p k (LinkRow h lane q d prior next)). here z.lane z.change z.before z.next z.is z.key)
+    (row_back o t b (LinkRow h lane q d prior next) p g k e)
   where
     before : role o p t ≡ InBuffer g k → look
         (cond (h == g) (put (rows g t) (key_of d) q) (rows g t)) k ≡ Some p
@@ -46,9 +46,10 @@ listed_link o t b h q d prior next may old g k p e =
         (λ (n : h ≢ g). ap (λ (y : Map). look y k)
         (choice-other h g (put (rows g t) (key_of d) q) (rows g t) n) ∙ old g k p z)
 
-    here : (c : Change) (u v : ℕ) → LinkRow h q d prior next ≡ LinkRow g p c u v → key_of c ≡ k →
+    here : (l : ℕ) (c : Change) (u v : ℕ) → LinkRow h lane q d prior next ≡ LinkRow g l p c u v →
+        key_of c ≡ k →
         look (cond (h == g) (put (rows g t) (key_of d) q) (rows g t)) k ≡ Some p
-    here c u v same key = let s = link_is same in
+    here l c u v same key = let s = link_is same in
         ap (λ (y : Map). look y k) (choice-same h g (put (rows g t) (key_of d) q) (rows g t) s.0)
         ∙ (ap (look (put (rows g t) (key_of d) q)) (sym key ∙ ap key_of (sym s.2))
         ∙ (look-put-here (rows g t) (key_of d) q ∙ ap Some s.1))
@@ -60,22 +61,22 @@ listed_new o t b h low high f may old g k p e = ⊎_elim
     (λ (z : role o p t ≡ InBuffer g k). ap (λ (y : Map). look y k)
     (choice-other h g [] (rows g t) (λ w. may.no_row p k
     (z ∙ ap (λ (y : ℕ). InBuffer y k) (sym w)))) ∙ old g k p z)
-    (λ (z : IsLinkOf g p k (NewGroup h low high f)). let bad = z.3 in cc)
+    (λ (z : IsLinkOf g p k (NewGroup h low high f)). let bad = z.is in cc)
     (row_back o t b (NewGroup h low high f) p g k e)
 
 listed_else : (o : Opening) (t : Execution) (b : ℕ) (d : Action) →
     ((g : ℕ) → rows g (event b d ∷ t) ≡ rows g t) →
-    ((g p u v : ℕ) (c : Change) → d ≡ LinkRow g p c u v → ⊥) → RowsAreListed o t →
+    ((g l p u v : ℕ) (c : Change) → d ≡ LinkRow g l p c u v → ⊥) → RowsAreListed o t →
     RowsAreListed o (event b d ∷ t)
 listed_else o t b d same never old g k p e = ⊎_elim
     (λ (z : role o p t ≡ InBuffer g k). ap (λ (y : Map). look y k) (same g) ∙ old g k p z)
-    (λ (z : IsLinkOf g p k d). absurd (never g p z.1 z.2 z.0 z.3)) (row_back o t b d p g k e)
+    (λ (z : IsLinkOf g p k d). absurd (never g z.lane p z.before z.next z.change z.is)) (row_back o t b d p g k e)
 
 listed_step : (o : Opening) (t : Execution) (b : ℕ) (d : Action) → Allowed o t b d →
     RowsAreListed o t → RowsAreListed o (event b d ∷ t)
-listed_step o t b (LinkRow h q d prior next) may old = listed_link o t b h q d prior next may old
+listed_step o t b (LinkRow h lane q d prior next) may old = listed_link o t b h lane q d prior next may old
 listed_step o t b (NewGroup h low high f) may old = listed_new o t b h low high f may old
-listed_step o t b d may old = listed_else o t b d (λ g. refl) (λ g p u v c e. let bad = e in cc) old
+listed_step o t b d may old = listed_else o t b d (λ g. refl) (λ g l p u v c e. let bad = e in cc) old
 
 pub listed : (o : Opening) → ((g k q : ℕ) → role o q [] ≢ InBuffer g k) → (t : Execution) →
     Valid o t → RowsAreListed o t

@@ -105,7 +105,7 @@ rows_step o t b d may old g k p s e = ⊎_elim
     (λ (w : CopiesFrom p d × (kind (form o p (event b d ∷ t)) ≡ Away)). forward_away e w.1) y)
     (kind_step o t b d p k may (ap role_key z)))
     (λ (z : IsLinkOf g p k d).
-    apart_direct (linked_kind o t b d g p z.0 z.1 z.2 z.3))
+    apart_direct (linked_kind o t b d g z.lane p z.change z.before z.next z.is))
     (row_back o t b d p g k s)
   where
     apart_direct : kind (form o p (event b d ∷ t)) ≡ Direct → ⊥

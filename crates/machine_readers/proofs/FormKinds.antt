@@ -78,7 +78,7 @@ pub kind_step : (o : Opening) (t : Execution) (b : ℕ) (d : Action) (p k : ℕ)
     (kind (form o p (event b d ∷ t)) ≡ kind (form o p t))
     ⊎ ((MakesDirect p d × (kind (form o p (event b d ∷ t)) ≡ Direct))
     ⊎ (CopiesFrom p d × (kind (form o p (event b d ∷ t)) ≡ Away)))
-kind_step o t b (LinkRow g q d prior next) p k may s =
+kind_step o t b (LinkRow g lane q d prior next) p k may s =
     inl (ap kind (choice-other q p (Unlocked (first_version o) false (put_value d)) (form o p t)
     (λ z. none_some (sym (ap role_key may.mine)
     ∙ (ap (λ (y : ℕ). role_key (role o y t)) z ∙ s)))))
@@ -128,9 +128,9 @@ kind_step o t b d p k may s = inl refl
 
 -- ---- what the actions that place a place make of it ----
 
-pub linked_kind : (o : Opening) (t : Execution) (b : ℕ) (d : Action) (g p : ℕ) (c : Change)
-    (u v : ℕ) → d ≡ LinkRow g p c u v → kind (form o p (event b d ∷ t)) ≡ Direct
-linked_kind o t b d g p c u v e =
+pub linked_kind : (o : Opening) (t : Execution) (b : ℕ) (d : Action) (g lane p : ℕ) (c : Change)
+    (u v : ℕ) → d ≡ LinkRow g lane p c u v → kind (form o p (event b d ∷ t)) ≡ Direct
+linked_kind o t b d g lane p c u v e =
     subst (λ (i : Action). kind (form o p (event b i ∷ t)) ≡ Direct) (sym e)
     (ap kind
     (choice-same p p (Unlocked (first_version o) false (put_value c)) (form o p t) refl))

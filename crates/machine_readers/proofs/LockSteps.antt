@@ -21,7 +21,7 @@ use Rattle.index_machine.proofs.Options.{none_some}
 pub locked_step : (o : Opening) (t : Execution) (b : ℕ) (d : Action) (c p k v x z : ℕ) (r : Bool) →
     Allowed o t b d → b ≢ c → role_key (role o p t) ≡ Some k → form o p t ≡ Locked c v r x z →
     form o p (event b d ∷ t) ≡ Locked c v r x z
-locked_step o t b (LinkRow g q d prior next) c p k v x z r may n s e =
+locked_step o t b (LinkRow g lane q d prior next) c p k v x z r may n s e =
     choice-other q p (Unlocked (first_version o) false (put_value d)) (form o p t)
     (λ i. none_some (sym (ap role_key may.mine) ∙ (ap (λ (y : ℕ). role_key (role o y t)) i ∙ s)))
     ∙ e

@@ -33,9 +33,9 @@ no_role_ends : (o : Opening) (t : Execution) (p : ℕ) (d : Action) → LoadsPla
 no_role_ends o t p d by out =
     ⊎_elim
     (λ (z : (a : ℕ) × (d ≡ LoadState a (word_of_state (state.Redirect p)))). apart z.1 out)
-    (λ (y : ((g : ℕ) × (d ≡ LoadHead g p) × (p ≢ 0))
+    (λ (y : ((g : ℕ) × (lane : ℕ) × (d ≡ LoadHead g lane p) × (p ≢ 0))
     ⊎ ((g : ℕ) × (q : ℕ) × (d ≡ LoadLink g q p) × (p ≢ 0))).
-    ⊎_elim (λ (z : (g : ℕ) × (d ≡ LoadHead g p) × (p ≢ 0)). head z.1 out)
+    ⊎_elim (λ (z : (g : ℕ) × (lane : ℕ) × (d ≡ LoadHead g lane p) × (p ≢ 0)). head z.2 out)
     (λ (z : (g : ℕ) × (q : ℕ) × (d ≡ LoadLink g q p) × (p ≢ 0)). link z.2 out) y) by
   where
     apart : {a x : ℕ} → d ≡ LoadState a x → EndsRole o t p d → ⊥
@@ -45,7 +45,7 @@ no_role_ends o t p d by out =
         × (d ≡ NewGroup g low high f) × (role o p t ≡ InArray g j)).
         let bad = sym e ∙ w.5 in cc) out
 
-    head : {g x : ℕ} → d ≡ LoadHead g x → EndsRole o t p d → ⊥
+    head : {g l x : ℕ} → d ≡ LoadHead g l x → EndsRole o t p d → ⊥
     head e out =
         ⊎_elim (λ (w : (n : ℕ) × (d ≡ Retire p n)). let bad = sym e ∙ w.1 in cc)
         (λ (w : (g : ℕ) × (low : ℕ) × (high : ℕ) × (f : ℕ) × (j : ℕ)
@@ -104,7 +104,7 @@ reached_step c p b (Enter n) t within e = choice-other b c false (reached c p t)
 reached_step c p b (Leave n) t within e = choice-other b c false (reached c p t) within ∙ e
 reached_step c p b (LoadState a found) t within e =
     still_reached b c (found == word_of_state (state.Redirect p)) (reached c p t) e
-reached_step c p b (LoadHead g found) t within e =
+reached_step c p b (LoadHead g lane found) t within e =
     still_reached b c (names_place found p) (reached c p t) e
 reached_step c p b (LoadLink g q found) t within e =
     still_reached b c (names_place found p) (reached c p t) e

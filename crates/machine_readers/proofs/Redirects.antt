@@ -83,7 +83,7 @@ if_back false f g q y h e = (y, e)
 pub redirect_back : (o : Opening) (t : Execution) (b : ℕ) (d : Action) (a q y : ℕ) →
     form o a (event b d ∷ t) ≡ Redirect q y →
     ((z : ℕ) × (form o a t ≡ Redirect q z)) ⊎ ((g : ℕ) × (k : ℕ) × (d ≡ StoreRedirect g a k q))
-redirect_back o t b (LinkRow g p d prior next) a q y e =
+redirect_back o t b (LinkRow g lane p d prior next) a q y e =
     inl (if_back (p == a) (Unlocked (first_version o) false (put_value d)) (form o a t) q y
     (λ z w. let bad : Unlocked (first_version o) false (put_value d) ≡ Redirect q z = w in cc) e)
 redirect_back o t b (Lock p expected) a q y e = inl
@@ -248,7 +248,7 @@ pub redirect_on : (o : Opening) (t : Execution) (b : ℕ) (d : Action) (a g k q 
     Allowed o t b d → role o a t ≡ InArray g k → form o a t ≡ Redirect q y
     → ((z : ℕ) × (form o a (event b d ∷ t) ≡ Redirect q z)) ⊎
     ((p : ℕ) × (j : ℕ) × (r : Bool) × (u : ℕ) × (d ≡ StoreDirect a p j r u))
-redirect_on o t b (LinkRow h p d prior next) a g k q y may s e =
+redirect_on o t b (LinkRow h lane p d prior next) a g k q y may s e =
     inl (
       y,
       choice-other p a (Unlocked (first_version o) false (put_value d)) (form o a t)

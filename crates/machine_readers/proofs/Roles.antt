@@ -46,9 +46,13 @@ emptied_buffer g (InArray i j) h k e = dite (ℕ_discrete i g)
     ∙ e in cc) (λ (n : i ≢ g). sym (choice-other i g Unused (InArray i j) n) ∙ e)
 
 -- the action links this row into the group's buffer, for the key
-abbrev pub IsLinkOf : ℕ → ℕ → ℕ → Action → Type 0
-IsLinkOf g a k d =
-    (c : Change) × (u : ℕ) × (v : ℕ) × (d ≡ LinkRow g a c u v) × (key_of c ≡ k)
+pub record IsLinkOf (g a k : ℕ) (d : Action) : Type 0 where
+  pub lane : ℕ
+  pub change : Change
+  pub before : ℕ
+  pub next : ℕ
+  pub is : d ≡ LinkRow g lane a change before next
+  pub key : key_of change ≡ k
 
 -- the action takes the place out of its role: it is retired, or its group is begun anew
 abbrev pub EndsRole : Opening → Execution → ℕ → Action → Type 0
@@ -73,7 +77,7 @@ array_back o t b (Retire p next) a g k e = ⊎_elim
     (λ (z : (p ≡ a) × (HeldBy b ≡ InArray g k)). let bad = z.1 in cc)
     (λ (z : (p ≢ a) × (role o a t ≡ InArray g k)). inl z.1)
     (set_back p a (HeldBy b) (role o a t) (InArray g k) e)
-array_back o t b (LinkRow h p d prior next) a g k e =
+array_back o t b (LinkRow h lane p d prior next) a g k e =
     ⊎_elim (λ (z : (p ≡ a) × (InBuffer h (key_of d) ≡ InArray g k)). let bad = z.1 in cc)
     (λ (z : (p ≢ a) × (role o a t ≡ InArray g k)). inl z.1)
     (set_back p a (InBuffer h (key_of d)) (role o a t) (InArray g k) e)
@@ -99,9 +103,10 @@ row_back o t b (Retire p next) a g k e = ⊎_elim
     (λ (z : (p ≡ a) × (HeldBy b ≡ InBuffer g k)). let bad = z.1 in cc)
     (λ (z : (p ≢ a) × (role o a t ≡ InBuffer g k)). inl z.1)
     (set_back p a (HeldBy b) (role o a t) (InBuffer g k) e)
-row_back o t b (LinkRow h p d prior next) a g k e =
+row_back o t b (LinkRow h lane p d prior next) a g k e =
     ⊎_elim (λ (z : (p ≡ a) × (InBuffer h (key_of d) ≡ InBuffer g k)). let two = z.1 in
-    let x : h ≡ g = cc in let y : key_of d ≡ k = cc in let w = z.0 in inr (d, prior, next, (cc), y))
+    let x : h ≡ g = cc in let y : key_of d ≡ k = cc in let w = z.0 in
+    inr (record { lane = lane; change = d; before = prior; next = next; is = cc; key = y }))
     (λ (z : (p ≢ a) × (role o a t ≡ InBuffer g k)). inl z.1)
     (set_back p a (InBuffer h (key_of d)) (role o a t) (InBuffer g k) e)
 row_back o t b (NewGroup h low high f) a g k e = inl (emptied_buffer h (role o a t) g k e)
@@ -114,7 +119,8 @@ row_back o t b d a g k e = inl e
 redirect_place : {g a k to h b j u : ℕ} → StoreRedirect g a k to ≡ StoreRedirect h b j u → a ≡ b
 redirect_place e = cc
 
-link_place : {g a h b u v x y : ℕ} {c d : Change} → LinkRow g a c u v ≡ LinkRow h b d x y → a ≡ b
+link_place : {g l a h m b u v x y : ℕ} {c d : Change} → LinkRow g l a c u v ≡ LinkRow h m b d x y →
+    a ≡ b
 link_place e = cc
 
 one_step : (o : Opening) (t : Execution) (b : ℕ) (d : Action) → Allowed o t b d → OnePlaceEach o t →
@@ -135,12 +141,12 @@ one_step o t b d may old = record {
       (λ (ex : role o x t ≡ InBuffer g k). ⊎_elim
       (λ (ey : role o y t ≡ InBuffer g k). old.rows x y g k ex ey)
       (λ (ny : IsLinkOf g y k d). absurd ((may_as o t b d
-      (LinkRow g y ny.0 ny.1 ny.2) ny.3 may).alone x
-      (ex ∙ ap (λ (i : ℕ). InBuffer g i) (sym ny.4)))) (row_back o t b d y g k f))
+      (LinkRow g ny.lane y ny.change ny.before ny.next) ny.is may).alone x
+      (ex ∙ ap (λ (i : ℕ). InBuffer g i) (sym ny.key)))) (row_back o t b d y g k f))
       (λ (nx : IsLinkOf g x k d). ⊎_elim (λ (ey : role o y t ≡ InBuffer g k).
-      absurd ((may_as o t b d (LinkRow g x nx.0 nx.1 nx.2) nx.3 may).alone y
-      (ey ∙ ap (λ (i : ℕ). InBuffer g i) (sym nx.4))))
-      (λ (ny : IsLinkOf g y k d). link_place (sym nx.3 ∙ ny.3)) (row_back o t b d y g k f))
+      absurd ((may_as o t b d (LinkRow g nx.lane x nx.change nx.before nx.next) nx.is may).alone y
+      (ey ∙ ap (λ (i : ℕ). InBuffer g i) (sym nx.key))))
+      (λ (ny : IsLinkOf g y k d). link_place (sym nx.is ∙ ny.is)) (row_back o t b d y g k f))
       (row_back o t b d x g k e);
 }
 
@@ -159,7 +165,7 @@ role_stays o t b (PopFree q next) p k may e =
 role_stays o t b (PushFree q head) p k may e =
     inl (choice-other q p Unused (role o p t)
     (λ z. none_some (sym (ap role_key may.held) ∙ (ap (λ (y : ℕ). role_key (role o y t)) z ∙ e))))
-role_stays o t b (LinkRow g q d prior next) p k may e =
+role_stays o t b (LinkRow g lane q d prior next) p k may e =
     inl (choice-other q p (InBuffer g (key_of d)) (role o p t)
     (λ z. none_some (sym (ap role_key may.mine) ∙ (ap (λ (y : ℕ). role_key (role o y t)) z ∙ e))))
 role_stays o t b (StoreRedirect g q j to) p k may e =

@@ -71,7 +71,7 @@ removed_unlock o t b q p r d is may none z e =
 pub removed_step : (o : Opening) (t : Execution) (b : ℕ) (d : Action) (p k : ℕ) → Allowed o t b d →
     role_key (role o p t) ≡ Some k → IsNotRevivable o t p → is_removed (form o p t) ≡ true →
     is_removed (form o p (event b d ∷ t)) ≡ true
-removed_step o t b (LinkRow g q d prior next) p k may s none e =
+removed_step o t b (LinkRow g lane q d prior next) p k may s none e =
     ap is_removed (choice-other q p (Unlocked (first_version o) false (put_value d)) (form o p t)
     (λ z. none_some (sym (ap role_key may.mine) ∙ (ap (λ (y : ℕ). role_key (role o y t)) z ∙ s))))
     ∙ e

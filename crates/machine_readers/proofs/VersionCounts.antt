@@ -148,7 +148,7 @@ counted_unlock o t b q r d p k is may keyed h =
 counted_step : (o : Opening) (t : Execution) (b : ℕ) (d : Action) (p k : ℕ) → Allowed o t b d →
     role_key (role o p t) ≡ Some k → IsCounted o (changes_at k (history t)) (form o p t) →
     IsCounted o (changes_at k (history (event b d ∷ t))) (form o p (event b d ∷ t))
-counted_step o t b (LinkRow g q d prior next) p k may s h =
+counted_step o t b (LinkRow g lane q d prior next) p k may s h =
     let m : ℕ = changes_at k (d ∷ history t) in
     subst (IsCounted o m) (sym (choice-other q p (Unlocked (first_version o) false (put_value d))
     (form o p t) (λ z. keyed_not o t q p k (HeldBy b) may.mine refl s z)))
@@ -207,7 +207,7 @@ counted_step o t b d p k may s h = h
 -- the action gives the place its key: it is linked, or forwards
 abbrev GivesKey : ℕ → Action → Type 0
 GivesKey p d =
-    ((g : ℕ) × (c : Change) × (u : ℕ) × (v : ℕ) × (d ≡ LinkRow g p c u v))
+    ((g : ℕ) × (l : ℕ) × (c : Change) × (u : ℕ) × (v : ℕ) × (d ≡ LinkRow g l p c u v))
     ⊎ ((g : ℕ) × (j : ℕ) × (to : ℕ) × (d ≡ StoreRedirect g p j to))
 
 key_back : (o : Opening) (t : Execution) (b : ℕ) (d : Action) (p k : ℕ) →
@@ -225,17 +225,18 @@ key_back o t b d p k e = go (role o p (event b d ∷ t)) refl e
         (array_back o t b d p g j is)
     go (InBuffer g j) is z =
         ⊎_elim (λ (w : role o p t ≡ InBuffer g j). inl (ap role_key w ∙ z))
-        (λ (w : IsLinkOf g p j d). inr (inl (g, w.0, w.1, w.2, w.3)))
+        (λ (w : IsLinkOf g p j d). inr (inl (g, w.lane, w.change, w.before, w.next, w.is)))
         (row_back o t b d p g j is)
 
 given_counts : (o : Opening) (t : Execution) (b : ℕ) (d : Action) (p n : ℕ) → GivesKey p d →
     IsCounted o n (form o p (event b d ∷ t))
 given_counts o t b d p n gives =
     ⊎_elim
-    (λ (z : (g : ℕ) × (c : Change) × (u : ℕ) × (v : ℕ) × (d ≡ LinkRow g p c u v)).
-    subst (λ (y : Action). IsCounted o n (form o p (event b y ∷ t))) (sym z.4)
+    (λ (z : (g : ℕ) × (l : ℕ) × (c : Change) × (u : ℕ) × (v : ℕ)
+    × (d ≡ LinkRow g l p c u v)).
+    subst (λ (y : Action). IsCounted o n (form o p (event b y ∷ t))) (sym z.5)
     (subst (IsCounted o n)
-    (sym (choice-same p p (Unlocked (first_version o) false (put_value z.1)) (form o p t) refl))
+    (sym (choice-same p p (Unlocked (first_version o) false (put_value z.2)) (form o p t) refl))
     (first_counts o n)))
     (λ (z : (g : ℕ) × (j : ℕ) × (to : ℕ) × (d ≡ StoreRedirect g p j to)).
     subst (λ (y : Action). IsCounted o n (form o p (event b y ∷ t))) (sym z.3)

@@ -79,7 +79,7 @@ keyed_not o t q p k s e none keyed z = none_some
 
 past_step : (o : Opening) (t : Execution) (b : ℕ) (d : Action) (p k v : ℕ) → Allowed o t b d →
     role_key (role o p t) ≡ Some k → IsPast v (form o p t) → IsPast v (form o p (event b d ∷ t))
-past_step o t b (LinkRow g q d prior next) p k v may s h =
+past_step o t b (LinkRow g lane q d prior next) p k v may s h =
     subst (IsPast v) (sym (choice-other q p (Unlocked (first_version o) false (put_value d))
     (form o p t) (λ z. keyed_not o t q p k (HeldBy b) may.mine refl s z))) h
 past_step o t b (StoreRedirect g q j to) p k v may s h =
@@ -116,7 +116,7 @@ same_if v x r false f g h e = inl e
 unlocked_step : (o : Opening) (t : Execution) (b : ℕ) (d : Action) (p k v x : ℕ) (r : Bool) →
     Allowed o t b d → role_key (role o p t) ≡ Some k → form o p t ≡ Unlocked v r x →
     StaysOrPasses o (event b d ∷ t) p v r x
-unlocked_step o t b (LinkRow g q d prior next) p k v x r may s e =
+unlocked_step o t b (LinkRow g lane q d prior next) p k v x r may s e =
     inl (choice-other q p (Unlocked (first_version o) false (put_value d)) (form o p t)
     (λ z. keyed_not o t q p k (HeldBy b) may.mine refl s z) ∙ e)
 unlocked_step o t b (StoreRedirect g q j to) p k v x r may s e =

@@ -9,7 +9,7 @@ use Rattle.index_machine.specs.Rows.{InBuffer, role}
 
 -- the rows of a buffer after an action, where they were these before
 abbrev pub rows_after : ℕ → Action → Map → Map
-rows_after g (LinkRow h q d before next) m = cond (h == g) (put m (key_of d) q) m
+rows_after g (LinkRow h lane q d before next) m = cond (h == g) (put m (key_of d) q) m
 rows_after g (NewGroup h low high f) m = cond (h == g) [] m
 rows_after g _ m = m
 

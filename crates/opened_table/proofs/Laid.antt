@@ -1,8 +1,8 @@
 -- The words that are laid out for a new board, before those of its rows.
 use Rattle.std.proofs.Common.{◌≡◌, ◌≢◌, inl, inr, ⊎_elim, ℕ, ◌+◌, ◌-◌, ◌<◌, ◌≤◌, List, [], length}
 use Rattle.std.proofs.Common.{slice_set, refl, sym, ap, ◌∙◌, subst, arith, length-set}
-use Rattle.std.proofs.Common.{Bool, true, false, cond}
-use Rattle.std.specs.Prelude.{◌==◌}
+use Rattle.std.proofs.Common.{Bool, true, false, cond, zero, suc}
+use Rattle.std.specs.Prelude.{◌==◌, nat_lt}
 use mathlib.Core.Logic.{dite}
 use native.Mathlib.Decide.{ℕ_discrete}
 use Rattle.std.proofs.lemmas.Bool.{lt-leb}
@@ -19,9 +19,11 @@ use Rattle.word_layout.proofs.RowPlaces.{IsRow-row_address, row_number, row_addr
 use Rattle.word_layout.proofs.RowPlaces.{next_row-inner, next_row-last}
 use Rattle.word_layout.proofs.WordNames.{stores_by_name, array_inside}
 use Rattle.index_machine.specs.declared.opening.Opening.{Opening}
-use Rattle.index_machine.specs.Words.{limits, opening_word}
+use Rattle.rebuild_plan.specs.Plan.{lane_count}
+use Rattle.index_machine.specs.Words.{limits, opening_cut, opening_word}
+use Rattle.index_machine.proofs.Executions.{choice-other}
 use Rattle.opened_table.specs.Laying.{LinksRows}
-use Rattle.opened_table.specs.Laying.{StandsFor}
+use Rattle.opened_table.specs.Laying.{StandsBare}
 
 place_of_link : (p q : ℕ) → PlaceWord p Link ≡ PlaceWord q Link → p ≡ q
 place_of_link p q e = cc
@@ -100,21 +102,30 @@ without_rows o =
     record { layout = o.layout; rows = []; rising = tt; few = omega arith; keys = tt }
 
 -- a choice between a number and itself
-no_choice : (b : Bool) (n : ℕ) → cond b n n ≡ n
+pub no_choice : (b : Bool) (n : ℕ) → cond b n n ≡ n
 no_choice true n = refl
 no_choice false n = refl
 
--- all words of its headers are 0
-pub no_header : (o : Opening) (g : ℕ) (h : HeaderWord) →
+-- where there are no keys no lane has a cut
+no_cut : (lane : ℕ) → opening_cut [] lane ≡ 0
+no_cut zero = no_choice (nat_lt 0 (lane_count 0)) 0
+no_cut (suc lane) = no_choice (nat_lt (suc lane) (lane_count 0)) 0
+
+-- all words of its headers are 0, but how many lanes group 0 has
+pub no_header : (o : Opening) (g : ℕ) (h : HeaderWord) → Header g h ≢ Header 0 header.Lanes →
     opening_word (without_rows o) (Header g h) ≡ 0
-no_header o g header.Size = no_choice (g == 0) 0
-no_header o g header.Pivot = refl
-no_header o g header.LineError = refl
-no_header o g header.BufferHead = refl
-no_header o g header.Phase = refl
-no_header o g header.Next = refl
-no_header o g header.FirstSpare = refl
-no_header o g header.SecondSpare = refl
+no_header o g header.Size n = no_choice (g == 0) 0
+no_header o g header.Pivot n = refl
+no_header o g header.LineError n = no_choice (g == 0) 0
+no_header o g header.Lanes n =
+    choice-other g 0 (lane_count 0) 0 (λ z. n (ap (λ (i : ℕ). Header i header.Lanes) z))
+no_header o g header.Phase n = refl
+no_header o g header.Next n = refl
+no_header o g header.FirstSpare n = refl
+no_header o g header.SecondSpare n = refl
+no_header o g (header.Head lane) n = refl
+no_header o g (header.Cut lane) n =
+    ap (λ (i : ℕ). cond (g == 0) i 0) (no_cut lane) ∙ no_choice (g == 0) 0
 
 -- what the laying does to a table of zeros
 module _ (o : Opening) (zeros linked : List ℕ) (wide : length zeros ≡ word_count (limits o))
@@ -174,32 +185,32 @@ module _ (o : Opening) (zeros linked : List ℕ) (wide : length zeros ≡ word_c
       let at = inside.2 in
       absurd (omega arith))
 
-  each : (w : Word) → IsWord (limits o) w →
+  each : (w : Word) → IsWord (limits o) w → w ≢ Header 0 header.Lanes →
       word_named (limits o) linked w ≡ opening_word (without_rows o) w
-  each FreeHead is =
+  each FreeHead is n =
       links.kept FreeHead is
       (λ i lt e. let z : FreeHead ≡ PlaceWord (row_address (limits o) i) Link = e in cc)
       ∙ (stores_by_name (limits o)).stored (rooted o zeros) FreeHead (row_address (limits o) 0)
       wide_rooted tt
-  each Root is =
+  each Root is n =
       let by_name = stores_by_name (limits o) in
       links.kept Root is (λ i lt e. cc)
       ∙ (by_name.kept (rooted o zeros) FreeHead Root (row_address (limits o) 0) tt tt (λ e. cc)
       ∙ by_name.stored zeros Root 2 wide tt)
-  each (Epoch c) is = untouched (Epoch c) is (λ e. cc) (λ e. cc) (λ i lt e. cc)
-  each (SlotPivot s i) is = untouched (SlotPivot s i) is (λ e. cc) (λ e. cc) (λ j lt e. cc)
-  each (SlotGroup s i) is = untouched (SlotGroup s i) is (λ e. cc) (λ e. cc) (λ j lt e. cc)
-  each (Header g h) is =
-      untouched (Header g h) is (λ e. cc) (λ e. cc) (λ j lt e. cc) ∙ sym (no_header o g h)
-  each (PlaceWord p Key) is = untouched (PlaceWord p Key) is (λ e. cc) (λ e. cc) (λ j lt e. cc)
-  each (PlaceWord p Value) is =
+  each (Epoch c) is n = untouched (Epoch c) is (λ e. cc) (λ e. cc) (λ i lt e. cc)
+  each (SlotPivot s i) is n = untouched (SlotPivot s i) is (λ e. cc) (λ e. cc) (λ j lt e. cc)
+  each (SlotGroup s i) is n = untouched (SlotGroup s i) is (λ e. cc) (λ e. cc) (λ j lt e. cc)
+  each (Header g h) is n =
+      untouched (Header g h) is (λ e. cc) (λ e. cc) (λ j lt e. cc) ∙ sym (no_header o g h n)
+  each (PlaceWord p Key) is n = untouched (PlaceWord p Key) is (λ e. cc) (λ e. cc) (λ j lt e. cc)
+  each (PlaceWord p Value) is n =
       untouched (PlaceWord p Value) is (λ e. cc) (λ e. cc) (λ j lt e. cc)
-  each (PlaceWord p State) is =
+  each (PlaceWord p State) is n =
       untouched (PlaceWord p State) is (λ e. cc) (λ e. cc) (λ j lt e. cc)
-  each (PlaceWord p Link) is =
+  each (PlaceWord p Link) is n =
       ⊎_elim (λ row. link_of_row p row) (λ array. link_of_array p array) is
 
-  pub laid : StandsFor (without_rows o) linked []
+  pub laid : StandsBare (without_rows o) linked
   laid =
       record {
         wide = links.wide

@@ -1,12 +1,15 @@
 -- The words that are laid out with the rows of the opening, over those of a table without rows.
-use Rattle.std.proofs.Common.{◌≡◌, ◌≢◌, inr, ℕ, zero, suc, ◌+◌, ◌<◌, ◌≤◌, cond}
+use Rattle.std.proofs.Common.{◌≡◌, ◌≢◌, ◌⊎◌, inl, inr, ⊎_elim, ℕ, zero, suc, ◌+◌, ◌<◌, ◌≤◌, cond}
 use Rattle.std.proofs.Common.{false, Option, Some, None, List, [], ◌∷◌, ◌++◌, length}
 use Rattle.std.proofs.Common.{slice_index_or, slice_set, refl, sym, ap, ◌∙◌, subst, arith, length-set}
-use Rattle.std.specs.Prelude.{◌==◌}
+use Rattle.std.specs.Prelude.{◌==◌, nat_lt}
 use Rattle.std.specs.List.{AllByRecursion}
 use mathlib.Core.Logic.{dite}
 use native.Mathlib.Decide.{ℕ_discrete}
 use Rattle.map_model.specs.Map.{Map}
+use Rattle.std.proofs.lemmas.Bool.{cases_lt, lt-ltb, le-ltb}
+use Rattle.word_layout.specs.Headers.{IsHeaderWord}
+use Rattle.word_layout.specs.declared.headers.HeaderWord.{HeaderWord}
 use Rattle.word_layout.specs.declared.headers.HeaderWord.TheVariants as header
 use Rattle.word_layout.specs.declared.limits.Limits.{Limits}
 use Rattle.word_layout.specs.declared.places.Part.{Part}
@@ -21,11 +24,15 @@ use Rattle.word_layout.specs.Words.{PlaceWord, IsWord, address_of, word_named}
 use Rattle.word_layout.proofs.WordNames.{stores_by_name}
 use Rattle.index_machine.specs.declared.opening.Opening.{Opening}
 use Rattle.index_machine.specs.OpeningRows.{opening_row, row_from, key_word, value_word, row_state_word}
-use Rattle.index_machine.specs.Words.{limits, opening_word}
+use Rattle.index_machine.specs.OpeningRows.{keys_in}
+use Rattle.line_window.specs.Line.{error_of}
+use Rattle.rebuild_plan.specs.Plan.{lane_count}
+use Rattle.index_machine.specs.Words.{limits, opening_cut, opening_word}
 use Rattle.index_machine.proofs.Executions.{choice-same, choice-other}
-use Rattle.opened_table.proofs.Laid.{no_header, without_rows}
-use Rattle.opened_table.specs.Laying.{FillsArray, HoldsRow}
-use Rattle.opened_table.specs.Laying.{StandsFor}
+use Rattle.opened_table.proofs.LaidKeys.{length_of_keys}
+use Rattle.opened_table.proofs.Laid.{no_choice, no_header, without_rows}
+use Rattle.opened_table.specs.Laying.{FillsArray, HoldsRow, IsOfHeader, LaysHeader}
+use Rattle.opened_table.specs.Laying.{StandsBare, StandsFor}
 
 -- what all elements keep, and one more does too, all keep with this one behind them
 pub all_more : (P : ℕ × ℕ → Type 0) (rows : Map) (row : ℕ × ℕ) → AllByRecursion P rows → P row →
@@ -189,12 +196,45 @@ not_numbered l i (q ∷ rows) place e (suc n) lt is =
 
 -- ---- the whole table ----
 
+header_group : {g : ℕ} {h k : HeaderWord} → Header g h ≡ Header 0 k → g ≡ 0
+header_group e = cc
+
+-- a word that is none of the four kinds is none that a header gets
+apart_from : (keys : List ℕ) {w : Word} → IsOfHeader keys w → w ≢ Header 0 header.Size →
+    w ≢ Header 0 header.LineError → w ≢ Header 0 header.Lanes →
+    ((lane : ℕ) → w ≢ Header 0 (header.Cut lane)) → ⊥
+apart_from keys {w} of size error lanes cuts =
+    ⊎_elim (λ (e : w ≡ Header 0 header.Size). size e)
+    (λ (y : (w ≡ Header 0 header.LineError) ⊎ ((w ≡ Header 0 header.Lanes)
+    ⊎ ((lane : ℕ) × (1 ≤ lane) × (lane < lane_count (length keys))
+    × (w ≡ Header 0 (header.Cut lane))))).
+    ⊎_elim (λ (e : w ≡ Header 0 header.LineError). error e)
+    (λ (x : (w ≡ Header 0 header.Lanes)
+    ⊎ ((lane : ℕ) × (1 ≤ lane) × (lane < lane_count (length keys))
+    × (w ≡ Header 0 (header.Cut lane)))).
+    ⊎_elim (λ (e : w ≡ Header 0 header.Lanes). lanes e)
+    (λ (z : (lane : ℕ) × (1 ≤ lane) × (lane < lane_count (length keys))
+    × (w ≡ Header 0 (header.Cut lane))). cuts z.0 z.3) x) y) of
+
+-- a word that no header has is none that a header gets
+apart : (keys : List ℕ) {w : Word} → IsOfHeader keys w → ((h : HeaderWord) → w ≢ Header 0 h) → ⊥
+apart keys of none =
+    apart_from keys of (none header.Size) (none header.LineError) (none header.Lanes)
+    (λ lane. none (header.Cut lane))
+
+-- the header of another group gets no word
+of_another : (keys : List ℕ) (g : ℕ) (h : HeaderWord) → g ≢ 0 → IsOfHeader keys (Header g h) → ⊥
+of_another keys g h n of = apart keys of (λ k e. n (header_group e))
+
 -- what is stored over the words of a table without rows
-module _ (o : Opening) (old new : List ℕ) (empty : StandsFor (without_rows o) old [])
-    (fills : FillsArray (limits o) o.rows (length o.rows)
-    (slice_set old (address_of (limits o) (Header 0 header.Size)) (length o.rows)) new) where
-  group_0 : 0 < (limits o).groups
-  group_0 = let groups = o.layout.kept.least_groups in omega arith
+module _ (o : Opening) (old headed new : List ℕ) (empty : StandsBare (without_rows o) old)
+    (lays : LaysHeader (limits o) (keys_in o.rows) old headed)
+    (fills : FillsArray (limits o) o.rows (length o.rows) headed new) where
+  abbrev keys : List ℕ
+  keys = keys_in o.rows
+
+  some_group : 0 < (limits o).groups
+  some_group = let groups = o.layout.kept.least_groups in omega arith
 
   -- the word is none of those that were stored for a row
   abbrev IsOfNoRow : Word → Type 0
@@ -202,31 +242,94 @@ module _ (o : Opening) (old new : List ℕ) (empty : StandsFor (without_rows o) 
       (i : ℕ) (part : Part) → i < length o.rows → part ≢ Link →
       w ≢ PlaceWord (array_address (limits o) 0 i) part
 
-  -- what neither store changed
-  untouched : (w : Word) → IsWord (limits o) w → IsOfNoRow w → Header 0 header.Size ≢ w →
+  -- what no store changed
+  untouched : (w : Word) → IsWord (limits o) w → IsOfNoRow w → (IsOfHeader keys w → ⊥) →
       word_named (limits o) new w ≡ opening_word (without_rows o) w
   untouched w is none other =
       fills.kept w is none
-      ∙ ((stores_by_name (limits o)).kept old (Header 0 header.Size) w (length o.rows) group_0 is
-      other
-      ∙ empty.named w is)
+      ∙ (lays.kept w is other ∙ empty.named w is (λ e. other (inr (inr (inl e)))))
 
-  size : (g : ℕ) → g < (limits o).groups →
-      word_named (limits o) new (Header g header.Size) ≡ cond (g == 0) (length o.rows) 0
-  size g is =
+  -- a word that the header of group 0 gets, and that of no other group
+  given : (g : ℕ) (h : HeaderWord) (v : ℕ) → IsWord (limits o) (Header g h) → IsHeaderWord h →
+      word_named (limits o) headed (Header 0 h) ≡ v →
+      word_named (limits o) new (Header g h) ≡ cond (g == 0) v 0
+  given g h v is known held =
       dite (ℕ_discrete g 0)
       (λ (z : g ≡ 0).
       subst
-      (λ (h : ℕ). word_named (limits o) new (Header h header.Size)
-      ≡ cond (h == 0) (length o.rows) 0)
+      (λ (i : ℕ). word_named (limits o) new (Header i h) ≡ cond (i == 0) v 0)
       (sym z)
-      (fills.kept (Header 0 header.Size) group_0 (λ i part lt stored e. cc)
-      ∙ (stores_by_name (limits o)).stored old (Header 0 header.Size) (length o.rows) empty.wide
-      group_0))
+      (fills.kept (Header 0 h) (some_group, known) (λ i part lt stored e. cc) ∙ held))
       (λ (n : g ≢ 0).
-      untouched (Header g header.Size) is (λ i part lt stored e. cc)
-      (λ e. n (let same : 0 ≡ g = cc in sym same))
-      ∙ (no_header o g header.Size ∙ sym (choice-other g 0 (length o.rows) 0 n)))
+      untouched (Header g h) is (λ i part lt stored e. cc) (of_another keys g h n)
+      ∙ (no_header o g h (λ e. n (header_group e)) ∙ sym (choice-other g 0 v 0 n)))
+
+  -- a header word that no header gets
+  plain : (g : ℕ) (h : HeaderWord) → IsWord (limits o) (Header g h) →
+      (IsOfHeader keys (Header g h) → ⊥) →
+      word_named (limits o) new (Header g h) ≡ 0
+  plain g h is none =
+      untouched (Header g h) is (λ i part lt stored e. cc) none
+      ∙ no_header o g h (λ e. none (inr (inr (inl e))))
+
+  lane_of_cut : {g i j : ℕ} → Header g (header.Cut i) ≡ Header 0 (header.Cut j) → i ≡ j
+  lane_of_cut e = cc
+
+  -- a cut in the header of group 0 is given where the lane is there and not the first
+  not_of_header : (lane : ℕ) → (1 ≤ lane → lane < lane_count (length keys) → ⊥) →
+      IsOfHeader keys (Header 0 (header.Cut lane)) → ⊥
+  not_of_header lane none of =
+      ⊎_elim (λ (e : Header 0 (header.Cut lane) ≡ Header 0 header.Size). cc)
+      (λ (y : (Header 0 (header.Cut lane) ≡ Header 0 header.LineError)
+      ⊎ ((Header 0 (header.Cut lane) ≡ Header 0 header.Lanes)
+      ⊎ ((other : ℕ) × (1 ≤ other) × (other < lane_count (length keys))
+      × (Header 0 (header.Cut lane) ≡ Header 0 (header.Cut other))))).
+      ⊎_elim (λ (e : Header 0 (header.Cut lane) ≡ Header 0 header.LineError). cc)
+      (λ (x : (Header 0 (header.Cut lane) ≡ Header 0 header.Lanes)
+      ⊎ ((other : ℕ) × (1 ≤ other) × (other < lane_count (length keys))
+      × (Header 0 (header.Cut lane) ≡ Header 0 (header.Cut other)))).
+      ⊎_elim (λ (e : Header 0 (header.Cut lane) ≡ Header 0 header.Lanes). cc)
+      (λ (z : (other : ℕ) × (1 ≤ other) × (other < lane_count (length keys))
+      × (Header 0 (header.Cut lane) ≡ Header 0 (header.Cut other))).
+      let same = lane_of_cut z.3 in
+      let some = z.1 in
+      let lt = z.2 in
+      none (omega arith) (omega arith)) x) y) of
+
+  cut_held : (lane : ℕ) → IsWord (limits o) (Header 0 (header.Cut lane)) →
+      word_named (limits o) new (Header 0 (header.Cut lane)) ≡ opening_cut keys lane
+  cut_held zero is =
+      plain 0 (header.Cut 0) is (not_of_header 0 (λ some lt. omega (arith, some)))
+      ∙ sym (no_choice (nat_lt 0 (lane_count (length keys))) 0)
+  cut_held (suc before) is =
+      ⊎_elim
+      (λ (there : suc before < lane_count (length keys)).
+      fills.kept (Header 0 (header.Cut (suc before))) is (λ i part lt stored e. cc)
+      ∙ (lays.cuts (suc before) (omega arith) there
+      ∙ sym (rw (lt-ltb (suc before) (lane_count (length keys)) there) refl)))
+      (λ (none : lane_count (length keys) ≤ suc before).
+      plain 0 (header.Cut (suc before)) is
+      (not_of_header (suc before) (λ some lt. omega (arith, none, lt)))
+      ∙ sym (rw (le-ltb (suc before) (lane_count (length keys)) none) refl))
+      (cases_lt (suc before) (lane_count (length keys)))
+
+  cut_word : (g lane : ℕ) → IsWord (limits o) (Header g (header.Cut lane)) →
+      word_named (limits o) new (Header g (header.Cut lane)) ≡ cond (g == 0) (opening_cut keys lane) 0
+  cut_word g lane is =
+      dite (ℕ_discrete g 0)
+      (λ (z : g ≡ 0).
+      subst
+      (λ (i : ℕ).
+      word_named (limits o) new (Header i (header.Cut lane))
+      ≡ cond (i == 0) (opening_cut keys lane) 0)
+      (sym z) (cut_held lane (some_group, is.1)))
+      (λ (n : g ≢ 0).
+      plain g (header.Cut lane) is (of_another keys g (header.Cut lane) n)
+      ∙ sym (choice-other g 0 (opening_cut keys lane) 0 n))
+
+  -- a word of no header
+  placed_apart : (p : ℕ) (part : Part) → IsOfHeader keys (PlaceWord p part) → ⊥
+  placed_apart p part of = apart keys of (λ h e. let bad = e in cc)
 
   -- a part of a place, by the row that stands there
   part_of_place : (p : ℕ) (part : Part) (f : Option (ℕ × ℕ) → ℕ) → part ≢ Link →
@@ -237,6 +340,9 @@ module _ (o : Opening) (old new : List ℕ) (empty : StandsFor (without_rows o) 
       word_named (limits o) new (PlaceWord p part) ≡ f (opening_row o p)
   part_of_place p part f stored is blank held = go (opening_row o p) refl
     where
+      no_header_word : IsOfHeader keys (PlaceWord p part) → ⊥
+      no_header_word = placed_apart p part
+
       go : (r : Option (ℕ × ℕ)) → opening_row o p ≡ r →
           word_named (limits o) new (PlaceWord p part) ≡ f r
       go None e =
@@ -246,7 +352,7 @@ module _ (o : Opening) (old new : List ℕ) (empty : StandsFor (without_rows o) 
           place_of_word p (array_address (limits o) 0 i) part at z
           in
           not_numbered (limits o) 0 o.rows p e i lt (omega (arith, here)))
-          (λ z. cc)
+          no_header_word
           ∙ blank
       go (Some r) e =
           let w = numbered (limits o) 0 o.rows p r e in
@@ -254,27 +360,51 @@ module _ (o : Opening) (old new : List ℕ) (empty : StandsFor (without_rows o) 
           ap (λ (q : ℕ). word_named (limits o) new (PlaceWord q part)) here
           ∙ (held w.0 w.1 ∙ ap (λ (q : ℕ × ℕ). f (Some q)) w.3)
 
+  -- the header word is one that no header gets
+  abbrev IsOther : HeaderWord → Type 0
+  IsOther header.Size = ⊥
+  IsOther header.LineError = ⊥
+  IsOther header.Lanes = ⊥
+  IsOther (header.Cut lane) = ⊥
+  IsOther _ = Unit {0}
+
+  is_other : (g : ℕ) (h : HeaderWord) → IsOther h → IsOfHeader keys (Header g h) → ⊥
+  is_other g header.Pivot is of = apart_from keys of (λ e. cc) (λ e. cc) (λ e. cc) (λ lane e. cc)
+  is_other g header.Phase is of = apart_from keys of (λ e. cc) (λ e. cc) (λ e. cc) (λ lane e. cc)
+  is_other g header.Next is of = apart_from keys of (λ e. cc) (λ e. cc) (λ e. cc) (λ lane e. cc)
+  is_other g header.FirstSpare is of = apart_from keys of (λ e. cc) (λ e. cc) (λ e. cc) (λ lane e. cc)
+  is_other g header.SecondSpare is of = apart_from keys of (λ e. cc) (λ e. cc) (λ e. cc) (λ lane e. cc)
+  is_other g (header.Head lane) is of =
+      apart_from keys of (λ e. cc) (λ e. cc) (λ e. cc) (λ other e. cc)
+  is_other g header.Size is of = is
+  is_other g header.LineError is of = is
+  is_other g header.Lanes is of = is
+  is_other g (header.Cut lane) is of = is
+
   each : (w : Word) → IsWord (limits o) w → word_named (limits o) new w ≡ opening_word o w
-  each FreeHead is = untouched FreeHead is (λ i part lt stored e. cc) (λ e. cc)
-  each Root is = untouched Root is (λ i part lt stored e. cc) (λ e. cc)
-  each (Epoch c) is = untouched (Epoch c) is (λ i part lt stored e. cc) (λ e. cc)
-  each (SlotPivot s j) is = untouched (SlotPivot s j) is (λ i part lt stored e. cc) (λ e. cc)
-  each (SlotGroup s j) is = untouched (SlotGroup s j) is (λ i part lt stored e. cc) (λ e. cc)
-  each (Header g header.Size) is = size g is
-  each (Header g header.Pivot) is =
-      untouched (Header g header.Pivot) is (λ i part lt stored e. cc) (λ e. cc)
-  each (Header g header.LineError) is =
-      untouched (Header g header.LineError) is (λ i part lt stored e. cc) (λ e. cc)
-  each (Header g header.BufferHead) is =
-      untouched (Header g header.BufferHead) is (λ i part lt stored e. cc) (λ e. cc)
-  each (Header g header.Phase) is =
-      untouched (Header g header.Phase) is (λ i part lt stored e. cc) (λ e. cc)
-  each (Header g header.Next) is =
-      untouched (Header g header.Next) is (λ i part lt stored e. cc) (λ e. cc)
+  each FreeHead is =
+      untouched FreeHead is (λ i part lt stored e. cc) (λ of. apart keys of (λ h e. cc))
+  each Root is = untouched Root is (λ i part lt stored e. cc) (λ of. apart keys of (λ h e. cc))
+  each (Epoch c) is = untouched (Epoch c) is (λ i part lt stored e. cc) (λ of. apart keys of (λ h e. cc))
+  each (SlotPivot s j) is =
+      untouched (SlotPivot s j) is (λ i part lt stored e. cc) (λ of. apart keys of (λ h e. cc))
+  each (SlotGroup s j) is =
+      untouched (SlotGroup s j) is (λ i part lt stored e. cc) (λ of. apart keys of (λ h e. cc))
+  each (Header g header.Size) is =
+      given g header.Size (length o.rows) is tt (lays.size ∙ length_of_keys o.rows)
+  each (Header g header.LineError) is = given g header.LineError (error_of keys) is tt lays.error
+  each (Header g header.Lanes) is =
+      given g header.Lanes (lane_count (length keys)) is tt lays.lanes
+  each (Header g (header.Cut lane)) is = cut_word g lane is
+  each (Header g header.Pivot) is = plain g header.Pivot is (is_other g header.Pivot tt)
+  each (Header g header.Phase) is = plain g header.Phase is (is_other g header.Phase tt)
+  each (Header g header.Next) is = plain g header.Next is (is_other g header.Next tt)
   each (Header g header.FirstSpare) is =
-      untouched (Header g header.FirstSpare) is (λ i part lt stored e. cc) (λ e. cc)
+      plain g header.FirstSpare is (is_other g header.FirstSpare tt)
   each (Header g header.SecondSpare) is =
-      untouched (Header g header.SecondSpare) is (λ i part lt stored e. cc) (λ e. cc)
+      plain g header.SecondSpare is (is_other g header.SecondSpare tt)
+  each (Header g (header.Head lane)) is =
+      plain g (header.Head lane) is (is_other g (header.Head lane) tt)
   each (PlaceWord p Key) is =
       part_of_place p Key key_word (λ e. cc) is refl (λ i lt. (fills.filled i lt).key)
   each (PlaceWord p Value) is =
@@ -283,17 +413,12 @@ module _ (o : Opening) (old new : List ℕ) (empty : StandsFor (without_rows o) 
       part_of_place p State (row_state_word (limits o).first_version) (λ e. cc) is refl
       (λ i lt. (fills.filled i lt).state)
   each (PlaceWord p Link) is =
-      untouched (PlaceWord p Link) is (λ i part lt stored e. stored (part_is p i part e)) (λ e. cc)
+      untouched (PlaceWord p Link) is (λ i part lt stored e. stored (part_is p i part e))
+      (placed_apart p Link)
     where
       part_is : (p i : ℕ) (part : Part) →
           PlaceWord p Link ≡ PlaceWord (array_address (limits o) 0 i) part → part ≡ Link
       part_is p i part e = cc
 
   pub laid_rows : StandsFor o new []
-  laid_rows =
-      record {
-        wide = fills.wide
-            ∙ (length-set old (address_of (limits o) (Header 0 header.Size)) (length o.rows)
-            ∙ empty.wide);
-        named = each;
-      }
+  laid_rows = record { wide = fills.wide ∙ (lays.wide ∙ empty.wide); named = each }

@@ -1,2 +1,4 @@
 pub mod Laid
+pub mod LaidHeaders
+pub mod LaidKeys
 pub mod LaidRows

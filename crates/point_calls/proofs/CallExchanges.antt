@@ -27,6 +27,11 @@ use Rattle.row_arena.specs.declared.taking.Taken.TheVariants as taken
 use Rattle.row_arena.specs.Taking.{Fills, TakesRow, first_state}
 use Rattle.delta_buffer.specs.Inserting.{Inserts, change_of}
 use Rattle.delta_buffer.specs.Walks.{AreWalkOf, IsWalkOf, Walks}
+use Rattle.sorted_group.specs.declared.answers.Lane.{Lane}
+use Rattle.sorted_group.specs.Loads.{AreLaneLoads, IsCutLoad, LoadsLanes}
+use Rattle.word_layout.specs.declared.headers.HeaderWord.{HeaderWord}
+use Rattle.word_layout.specs.declared.headers.HeaderWord.TheVariants.{Cut, Lanes}
+use Rattle.index_machine.specs.declared.events.Action.TheVariants.{LoadHeader}
 use Rattle.record_cell.specs.declared.answers.Read.{Read}
 use Rattle.record_cell.specs.declared.answers.Read.TheVariants as read
 use Rattle.record_cell.specs.declared.answers.Wrote.{Wrote}
@@ -46,49 +51,80 @@ use Rattle.point_calls.proofs.Exchanging.{none_by, none_made, none_yet}
 
 -- ---- coming to the key ----
 
-no_walk_counts : (kind : Action → Bool) → ((g : ℕ) (d : Action) → IsWalkOf g d → kind d ≡ false) →
-    (g : ℕ) (actions : List Action) → AreWalkOf g actions → count_in kind actions ≡ 0
-no_walk_counts kind none g [] are = refl
-no_walk_counts kind none g (d ∷ actions) are =
-    let is = none g d are.0 in
-    let rest = no_walk_counts kind none g actions are.1 in
+no_walk_counts : (kind : Action → Bool) → ((g l : ℕ) (d : Action) → IsWalkOf g l d → kind d ≡ false) →
+    (g l : ℕ) (actions : List Action) → AreWalkOf g l actions → count_in kind actions ≡ 0
+no_walk_counts kind none g l [] are = refl
+no_walk_counts kind none g l (d ∷ actions) are =
+    let is = none g l d are.0 in
+    let rest = no_walk_counts kind none g l actions are.1 in
     ap (λ (z : Bool). cond z 1 0 + count_in kind actions) is ∙ rest_is rest
   where
     rest_is : {n : ℕ} → n ≡ 0 → 0 + n ≡ 0
     rest_is is = omega arith
 
-walk_no_lock : (g : ℕ) (d : Action) → IsWalkOf g d → exchanges_lock d ≡ false
-walk_no_lock g (LoadHead h n) is = refl
-walk_no_lock g (LoadLink h p n) is = refl
-walk_no_lock g (LoadKey p n) is = refl
-walk_no_lock g d is = absurd is
+walk_no_lock : (g l : ℕ) (d : Action) → IsWalkOf g l d → exchanges_lock d ≡ false
+walk_no_lock g l (LoadHead h j n) is = refl
+walk_no_lock g l (LoadLink h p n) is = refl
+walk_no_lock g l (LoadKey p n) is = refl
+walk_no_lock g l d is = absurd is
 
-walk_no_head : (g : ℕ) (d : Action) → IsWalkOf g d → exchanges_head d ≡ false
-walk_no_head g (LoadHead h n) is = refl
-walk_no_head g (LoadLink h p n) is = refl
-walk_no_head g (LoadKey p n) is = refl
-walk_no_head g d is = absurd is
+walk_no_head : (g l : ℕ) (d : Action) → IsWalkOf g l d → exchanges_head d ≡ false
+walk_no_head g l (LoadHead h j n) is = refl
+walk_no_head g l (LoadLink h p n) is = refl
+walk_no_head g l (LoadKey p n) is = refl
+walk_no_head g l d is = absurd is
 
-walk_no_link : (g : ℕ) (d : Action) → IsWalkOf g d → exchanges_link d ≡ false
-walk_no_link g (LoadHead h n) is = refl
-walk_no_link g (LoadLink h p n) is = refl
-walk_no_link g (LoadKey p n) is = refl
-walk_no_link g d is = absurd is
+walk_no_link : (g l : ℕ) (d : Action) → IsWalkOf g l d → exchanges_link d ≡ false
+walk_no_link g l (LoadHead h j n) is = refl
+walk_no_link g l (LoadLink h p n) is = refl
+walk_no_link g l (LoadKey p n) is = refl
+walk_no_link g l d is = absurd is
 
-walk_makes_none : (b : Board) (g : ℕ) (h k : Hand) → IsHandOf b h → Walks b g h k →
+walk_makes_none : (b : Board) (g l : ℕ) (h k : Hand) → IsHandOf b h → Walks b g l h k →
     MakesFewExchanges no_exchange h k
-walk_makes_none b g h k of walks =
-    none_made b h walks.0 k of walks.2 (no_walk_counts exchanges_lock walk_no_lock g walks.0 walks.1)
-    (no_walk_counts exchanges_head walk_no_head g walks.0 walks.1)
-    (no_walk_counts exchanges_link walk_no_link g walks.0 walks.1)
+walk_makes_none b g l h k of walks =
+    none_made b h walks.0 k of walks.2 (no_walk_counts exchanges_lock walk_no_lock g l walks.0 walks.1)
+    (no_walk_counts exchanges_head walk_no_head g l walks.0 walks.1)
+    (no_walk_counts exchanges_link walk_no_link g l walks.0 walks.1)
 
--- the caller came to the group and walked its buffer
-pub none_before : (b : Board) (h l n : Hand) (g : ℕ) → IsHandOf b h → ComesTo b h g l →
-    Walks b g l n → MakesFewExchanges no_exchange h n
-none_before b h l n g of comes walks =
+no_lane_counts : (kind : Action → Bool) →
+    ((g : ℕ) (which : HeaderWord) (n : ℕ) → kind (LoadHeader g which n) ≡ false) →
+    (g : ℕ) (actions : List Action) → AreLaneLoads g actions → count_in kind actions ≡ 0
+no_lane_counts kind none g [] are = absurd are
+no_lane_counts kind none g (d ∷ []) are =
+    ap (λ (z : Bool). cond z 1 0 + 0) (ap kind are.1 ∙ none g Lanes are.0)
+no_lane_counts kind none g (d ∷ (next ∷ actions)) are =
+    ap (λ (z : Bool). cond z 1 0 + count_in kind (next ∷ actions)) (cut_is g d are.0)
+    ∙ rest_is (no_lane_counts kind none g (next ∷ actions) are.1)
+  where
+    rest_is : {n : ℕ} → n ≡ 0 → 0 + n ≡ 0
+    rest_is is = omega arith
+
+    cut_is : (h : ℕ) (e : Action) → IsCutLoad h e → kind e ≡ false
+    cut_is h (LoadHeader i (Cut lane) n) is = none i (Cut lane) n
+    cut_is h e is = absurd is
+
+lanes_make_none : (b : Board) (g most : ℕ) (h k : Hand) → IsHandOf b h → LoadsLanes b g most h k →
+    MakesFewExchanges no_exchange h k
+lanes_make_none b g most h k of loads =
+    none_made b h loads.0 k of loads.3
+    (no_lane_counts exchanges_lock (λ i which n. refl) g loads.0 loads.1)
+    (no_lane_counts exchanges_head (λ i which n. refl) g loads.0 loads.1)
+    (no_lane_counts exchanges_link (λ i which n. refl) g loads.0 loads.1)
+
+-- the caller came to the lane of the key and walked it
+pub none_before : (b : Board) (h l n : Hand) (key : ℕ) (lane : Lane) → IsHandOf b h →
+    ComesTo b h key lane l → Walks b lane.group lane.number l n → MakesFewExchanges no_exchange h n
+none_before b h l n key lane of comes walks =
+    let g : ℕ = lane.group in
+    let there : Hand = comes.there in
+    let reaches = comes.reaches in
     few_behind no_exchange h l n
-    (none_made b h (LoadSlotGroup 0 0 g ∷ LoadRoot comes.root ∷ []) l of comes.steps refl refl refl)
-    (walk_makes_none b g l n comes.search.call.of walks)
+    (few_behind no_exchange h there l
+    (none_made b h (LoadSlotGroup 0 0 g ∷ LoadRoot reaches.root ∷ []) there of reaches.steps refl refl
+    refl)
+    (lanes_make_none b g 3 there l reaches.search.call.of comes.cuts))
+    (walk_makes_none b g lane.number l n comes.search.call.of walks)
 
 -- ---- a look ----
 
@@ -162,11 +198,11 @@ read_makes_none b h place (read.Changed at first second) k of s =
     again_makes_none b h s.1 place at first s.0 second k of s.2 s.4
 
 -- behind a walk to it
-pub none_in_read : (b : Board) (h l n : Hand) (g place : ℕ) (r : Read) (k : Hand) → IsHandOf b h →
-    ComesTo b h g l → Walks b g l n → IsHandOf b n → Reads b n place r k →
+pub none_in_read : (b : Board) (h l n : Hand) (key : ℕ) (lane : Lane) (place : ℕ) (r : Read)
+    (k : Hand) → IsHandOf b h → ComesTo b h key lane l → Walks b lane.group lane.number l n → IsHandOf b n → Reads b n place r k →
     MakesFewExchanges no_exchange h k
-none_in_read b h l n g place r k of comes walks at reads =
-    few_behind no_exchange h n k (none_before b h l n g of comes walks)
+none_in_read b h l n key lane place r k of comes walks at reads =
+    few_behind no_exchange h n k (none_before b h l n key lane of comes walks)
     (read_makes_none b n place r k at reads)
 
 -- a tombstone is found by loads alone
@@ -260,13 +296,13 @@ fill_makes_none b h place key value k of fills =
     refl refl
 
 -- and linked by one exchange of a link
-pub insert_makes_one : (b : Board) (h : Hand) (g place before next : ℕ) (l : Linked) (k : Hand) →
-    IsHandOf b h → Inserts b h g place before next l k → MakesFewExchanges one_link h k
-insert_makes_one b h g place before next linked.Done k of s =
-    few_steps b one_link h (LinkRow g place (change_of b h place) before next
+pub insert_makes_one : (b : Board) (h : Hand) (g lane place before next : ℕ) (l : Linked)
+    (k : Hand) → IsHandOf b h → Inserts b h g lane place before next l k → MakesFewExchanges one_link h k
+insert_makes_one b h g lane place before next linked.Done k of s =
+    few_steps b one_link h (LinkRow g lane place (change_of b h place) before next
     ∷ StorePrivate place part.Link next ∷ []) k of s (none_yet 0) (none_yet 0) just_one
-insert_makes_one b h g place before next (linked.Raced row found) k of s =
-    few_steps b one_link h (FailLink g before next found ∷ StorePrivate place part.Link next ∷ []) k of
+insert_makes_one b h g lane place before next (linked.Raced row found) k of s =
+    few_steps b one_link h (FailLink g lane before next found ∷ StorePrivate place part.Link next ∷ []) k of
     s.2 (none_yet 0) (none_yet 0) just_one
 
 -- so does a row that is taken, filled and linked come into a buffer

@@ -8,7 +8,9 @@ use Rattle.map_model.specs.Logs.{Log}
 use Rattle.std.specs.Prelude.{length}
 use Rattle.index_machine.specs.declared.events.Action.{Action}
 use Rattle.index_machine.specs.declared.events.Action.TheVariants.{Enter, Leave, LoadHead, LoadKey}
-use Rattle.index_machine.specs.declared.events.Action.TheVariants.{LoadLink}
+use Rattle.index_machine.specs.declared.events.Action.TheVariants.{LoadHeader, LoadLink}
+use Rattle.word_layout.specs.declared.headers.HeaderWord.TheVariants.{Cut}
+use Rattle.sorted_group.specs.Loads.{AreLaneLoads, IsCutLoad, LoadsLanes}
 use Rattle.index_machine.specs.Conditions.{Valid}
 use Rattle.index_machine.specs.Execution.{Continues, Execution, event}
 use Rattle.index_machine.specs.LivePlaces.{history}
@@ -37,7 +39,6 @@ use Rattle.index_rule.proofs.Stepping.{still_holds_no_lock}
 use Rattle.index_rule.proofs.Stepping.{still_holds_none}
 use Rattle.delta_buffer.specs.Walks.{AreWalkOf, IsWalkOf, MakesIn}
 use Rattle.delta_buffer.proofs.CallSteps.{made_in_call}
-use Rattle.delta_buffer.proofs.Stepping.{no_crossing}
 use Rattle.index_rule.specs.Calls.{CanCall}
 use Rattle.point_calls.specs.PointCalls.{HasSpare, IsCallSoFar, IsOneSection, KeepsRows, LooksUp}
 
@@ -111,19 +112,25 @@ in_step b start h k d none keeps m i =
       section = section_on b start h k d none i.of m i.section;
     }
 
-walk_keeps : (g : ℕ) (d : Action) → IsWalkOf g d → KeepsRoles d
-walk_keeps g (LoadHead h n) is = tt
-walk_keeps g (LoadLink h p n) is = tt
-walk_keeps g (LoadKey p n) is = tt
-walk_keeps g d is = absurd is
+walk_keeps : (g l : ℕ) (d : Action) → IsWalkOf g l d → KeepsRoles d
+walk_keeps g l (LoadHead h j n) is = tt
+walk_keeps g l (LoadLink h p n) is = tt
+walk_keeps g l (LoadKey p n) is = tt
+walk_keeps g l d is = absurd is
+
+walk_inside : (g l : ℕ) (d : Action) → IsWalkOf g l d → IsNoCrossing d
+walk_inside g l (LoadHead h j n) is = tt
+walk_inside g l (LoadLink h p n) is = tt
+walk_inside g l (LoadKey p n) is = tt
+walk_inside g l d is = absurd is
 
 -- behind a walk
-pub in_walk : (b : Board) (g : ℕ) (start h : Hand) (actions : List Action) (k : Hand) →
-    AreWalkOf g actions → MakesAll b h actions k → IsIn b start h → IsIn b start k
-in_walk b g start h [] k are all i = subst (IsIn b start) (sym all) i
-in_walk b g start h (d ∷ actions) k are all i =
-    in_step b start all.0 k d (no_crossing g d are.0) (walk_keeps g d are.0) all.2
-    (in_walk b g start h actions all.0 are.1 all.1 i)
+pub in_walk : (b : Board) (g l : ℕ) (start h : Hand) (actions : List Action) (k : Hand) →
+    AreWalkOf g l actions → MakesAll b h actions k → IsIn b start h → IsIn b start k
+in_walk b g l start h [] k are all i = subst (IsIn b start) (sym all) i
+in_walk b g l start h (d ∷ actions) k are all i =
+    in_step b start all.0 k d (walk_inside g l d are.0) (walk_keeps g l d are.0) all.2
+    (in_walk b g l start h actions all.0 are.1 all.1 i)
 
 -- none of the actions enters or leaves, takes a row or gives one
 abbrev pub AreKept : List Action → Type 0
@@ -136,6 +143,23 @@ pub in_all : (b : Board) (start h : Hand) (actions : List Action) (k : Hand) →
 in_all b start h [] k kept all i = subst (IsIn b start) (sym all) i
 in_all b start h (d ∷ actions) k kept all i =
     in_step b start all.0 k d kept.0 kept.1 all.2 (in_all b start h actions all.0 kept.2 all.1 i)
+
+-- the choice of a lane is made by loads that keep all of it
+kept_cut : (g : ℕ) (d : Action) → IsCutLoad g d → IsNoCrossing d × KeepsRoles d
+kept_cut g (LoadHeader h (Cut lane) n) is = (tt, tt)
+kept_cut g d is = absurd is
+
+kept_lanes : (g : ℕ) (actions : List Action) → AreLaneLoads g actions → AreKept actions
+kept_lanes g [] are = absurd are
+kept_lanes g (d ∷ []) are =
+    subst (λ (z : Action). AreKept (z ∷ [])) (sym are.1) (tt, tt, tt)
+kept_lanes g (d ∷ (next ∷ actions)) are =
+    let one = kept_cut g d are.0 in (one.0, one.1, kept_lanes g (next ∷ actions) are.1)
+
+pub in_lanes : (b : Board) (g most : ℕ) (start h k : Hand) → LoadsLanes b g most h k →
+    IsIn b start h → IsIn b start k
+in_lanes b g most start h k loads i =
+    in_all b start h loads.0 k (kept_lanes g loads.0 loads.1) loads.3 i
 
 -- ---- the call so far ----
 

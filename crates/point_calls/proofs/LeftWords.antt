@@ -106,12 +106,12 @@ made_behind b start h k first d w same of one m =
 
 -- ---- a walk ----
 
-walk_elsewhere : (g : ℕ) (d : Action) (hand : ℕ) (w : Word) → IsWalkOf g d →
+walk_elsewhere : (g l : ℕ) (d : Action) (hand : ℕ) (w : Word) → IsWalkOf g l d →
     StoresElsewhere w (store_of hand d)
-walk_elsewhere g (LoadHead h n) hand w is = tt
-walk_elsewhere g (LoadLink h p n) hand w is = tt
-walk_elsewhere g (LoadKey p n) hand w is = tt
-walk_elsewhere g d hand w is = absurd is
+walk_elsewhere g l (LoadHead h j n) hand w is = tt
+walk_elsewhere g l (LoadLink h p n) hand w is = tt
+walk_elsewhere g l (LoadKey p n) hand w is = tt
+walk_elsewhere g l d hand w is = absurd is
 
 -- the hand stored nothing at the word between these two moments
 abbrev LeavesBetween : ℕ → Word → Execution → Execution → Type 0
@@ -119,31 +119,31 @@ LeavesBetween hand w earlier later =
     (newer : Execution) × (newer ++ earlier ≡ later) × LeavesWord hand w newer
 
 -- so a walk leaves each word
-walk_leaves : (b : Board) (g : ℕ) (start h : Hand) (w : Word) (actions : List Action) (k : Hand) →
-    AreWalkOf g actions → MakesAll b h actions k → IsIn b start h →
+walk_leaves : (b : Board) (g l : ℕ) (start h : Hand) (w : Word) (actions : List Action) (k : Hand) →
+    AreWalkOf g l actions → MakesAll b h actions k → IsIn b start h →
     LeavesBetween start.number w (known h) (known k)
-walk_leaves b g start h w [] k are all i = ([], ap known (sym all), tt)
-walk_leaves b g start h w (d ∷ actions) k are all i =
+walk_leaves b g l start h w [] k are all i = ([], ap known (sym all), tt)
+walk_leaves b g l start h w (d ∷ actions) k are all i =
     let mid : Hand = all.0 in
     let m : Makes b mid d k = all.2 in
-    let at : IsIn b start mid = in_walk b g start h actions mid are.1 all.1 i in
-    let before = walk_leaves b g start h w actions mid are.1 all.1 i in
+    let at : IsIn b start mid = in_walk b g l start h actions mid are.1 all.1 i in
+    let before = walk_leaves b g l start h w actions mid are.1 all.1 i in
     let step : Execution = event mid.number d ∷ m.acts.0 in (
       step ++ before.0,
       append_assoc step before.0 (known h)
           ∙ (ap (λ (z : Execution). step ++ z) before.1 ∙ sym (known_is b mid k d at.of m)),
       leaves_both start.number w step before.0
           (leaves_step b start mid k d w at.number at.of
-          (walk_elsewhere g d mid.number w are.0) m)
+          (walk_elsewhere g l d mid.number w are.0) m)
           before.2,
     )
 
 -- one of its loads was made at a moment of it, and the hand has stored nothing at the word since
-pub walked_at : (b : Board) (g : ℕ) (start h k : Hand) (d : Action) (w : Word)
-    (moment : Execution) → IsIn b start h → Walks b g h k → HasJustMade h d moment →
+pub walked_at : (b : Board) (g l : ℕ) (start h k : Hand) (d : Action) (w : Word)
+    (moment : Execution) → IsIn b start h → Walks b g l h k → HasJustMade h d moment →
     Continues moment (known k) → MakesAt start w d k
-walked_at b g start h k d w moment i walks made on =
-    let left = walk_leaves b g start h w walks.0 k walks.1 walks.2 i in
+walked_at b g l start h k d w moment i walks made on =
+    let left = walk_leaves b g l start h w walks.0 k walks.1 walks.2 i in
     let is : event start.number d ∷ made.0 ≡ moment =
     subst (λ (z : ℕ). event z d ∷ made.0 ≡ moment) i.number made.2 in
     let upto : Execution = event start.number d ∷ made.1.0 in
@@ -162,17 +162,17 @@ walked_at b g start h k d w moment i walks made on =
 -- ---- the words of a new row ----
 
 -- the head of the free stack is no link
-pub head_elsewhere : (g before : ℕ) → same_word FreeHead (link_behind g before) ≡ false
-head_elsewhere g zero = refl
-head_elsewhere g (suc n) = refl
+pub head_elsewhere : (g l before : ℕ) → same_word FreeHead (link_behind g l before) ≡ false
+head_elsewhere g l zero = refl
+head_elsewhere g l (suc n) = refl
 
 -- a row of the hand's own is not the one behind which it links
-pub row_elsewhere : (o : Opening) (hand g key before place : ℕ) (part : Part) (t : Execution) →
-    IsLinkBefore o g key before t → Holds o hand place t →
-    same_word (PlaceWord place part) (link_behind g before) ≡ false
-row_elsewhere o hand g key zero place part t between held = refl
-row_elsewhere o hand g key (suc n) place part t (inl none) held = absurd (let bad = none in cc)
-row_elsewhere o hand g key (suc n) place part t (inr row) held =
+pub row_elsewhere : (o : Opening) (hand g l key before place : ℕ) (part : Part) (t : Execution) →
+    IsLinkBefore o g l key before t → Holds o hand place t →
+    same_word (PlaceWord place part) (link_behind g l before) ≡ false
+row_elsewhere o hand g l key zero place part t between held = refl
+row_elsewhere o hand g l key (suc n) place part t (inl none) held = absurd (let bad = none in cc)
+row_elsewhere o hand g l key (suc n) place part t (inr row) held =
     ap (λ (z : Bool). z && same_part part Link) (ne_eqb place (suc n) differ)
   where
     in_buffer : {group j owner : ℕ} → InBuffer group j ≡ HeldBy owner → ⊥

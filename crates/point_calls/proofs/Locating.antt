@@ -15,7 +15,7 @@ use Rattle.index_rule.proofs.BuiltLaws.{groups_as_opened}
 use Rattle.index_rule.proofs.RecordReading.{no_entry}
 use Rattle.index_rule.proofs.RecordStepping.{still_inside}
 use Rattle.index_rule.proofs.RootStepping.{root_is, sees_after_root, slot_is, stands_after_slot}
-use Rattle.point_calls.specs.Lookup.{ComesTo}
+use Rattle.point_calls.specs.Lookup.{Reaches}
 use Rattle.index_rule.specs.Calls.{CanCall}
 use Rattle.point_calls.proofs.Knowing.{IsIn, call_on, in_first, in_step}
 
@@ -42,7 +42,7 @@ module _ (b : Board) (h m : Hand) (word : ℕ) (can : CanCall b h) (loads : Make
           in_step b h m k (LoadSlotGroup 0 0 group) tt tt names
           (in_first b h m (LoadRoot word) tt tt can.of loads)
 
-      pub comes_to : ComesTo b h group k
+      pub comes_to : Reaches b h group k
       comes_to =
           let o = opening_of b in
           let load = LoadSlotGroup 0 0 group in

@@ -26,12 +26,16 @@ use Rattle.index_rule.specs.Moments.{AddsNoEntry, IsWithin}
 use Rattle.index_rule.specs.Records.{key_at, or_zero}
 use Rattle.index_rule.proofs.BufferStepping.{opened_walkable}
 use Rattle.index_rule.proofs.BuiltLaws.{arrays_as_opened, groups_as_opened, one_place_each}
-use Rattle.delta_buffer.specs.Searching.{CanSearch, FindsGap}
+use Rattle.delta_buffer.specs.Searching.{FindsGap}
+use Rattle.sorted_group.specs.Standing.{CanSearch}
 use Rattle.delta_buffer.specs.Walks.{Walks}
 use Rattle.record_cell.specs.Reads.{FindsNone}
-use Rattle.point_calls.specs.Lookup.{ComesTo, HasMissed}
+use Rattle.index_machine.specs.Lanes.{HasLane}
+use Rattle.sorted_group.specs.declared.answers.Lane.{Lane}
+use Rattle.sorted_group.specs.Loads.{LoadsLanes}
+use Rattle.point_calls.specs.Lookup.{ComesTo, HasMissed, Reaches}
 use Rattle.point_calls.specs.PointCalls.{OpensEmpty}
-use Rattle.point_calls.proofs.Knowing.{IsIn, built_at, call_is, in_first, in_step, in_walk}
+use Rattle.point_calls.proofs.Knowing.{IsIn, built_at, call_is, in_first, in_step, in_walk, in_lanes}
 use Rattle.point_calls.proofs.Knowing.{valid_at, within_whole}
 
 no_pair : {X : Type 0} {r : ℕ × ℕ} → None ≡ Some r → X
@@ -93,20 +97,47 @@ group_stays o t u built there key g own =
     ((groups_as_opened o u there).0 key).0 ∙ group_opened o t built key g own
 
 -- so the group to which the caller came is still that of the key
-pub group_reached : (b : Board) (h l n : Hand) (g key : ℕ) → ComesTo b h g l → IsIn b h l →
-    IsIn b h n → key ≤ greatest_key → group_of (opening_of b) key (known n) ≡ g
-group_reached b h l n g key comes il i most =
-    group_stays (opening_of b) (known l) (known n) il.follows.built i.follows.built key g
-    (comes.answers key most)
+pub group_reached : (b : Board) (h l n : Hand) (key : ℕ) (lane : Lane) → ComesTo b h key lane l →
+    IsIn b h l → IsIn b h n → key ≤ greatest_key →
+    group_of (opening_of b) key (known n) ≡ lane.group
+group_reached b h l n key lane comes il i most =
+    group_stays (opening_of b) (known l) (known n) il.follows.built i.follows.built key lane.group
+    comes.own
 
 -- it is within its call there
-pub in_comes : (b : Board) (h k : Hand) (g : ℕ) → IsHandOf b h → ComesTo b h g k → IsIn b h k
-in_comes b h k g of comes =
+pub in_reaches : (b : Board) (h k : Hand) (g : ℕ) → IsHandOf b h → Reaches b h g k → IsIn b h k
+in_reaches b h k g of comes =
     let s = comes.steps in
     let m : Hand = s.0 in
     let loads : Makes b h (LoadRoot comes.root) m =
     subst (λ (z : Hand). Makes b z (LoadRoot comes.root) m) s.1.1 s.1.2 in
     in_step b h m k (LoadSlotGroup 0 0 g) tt tt s.2 (in_first b h m (LoadRoot comes.root) tt tt of loads)
+
+pub in_comes : (b : Board) (h k : Hand) (key : ℕ) (lane : Lane) → IsHandOf b h →
+    ComesTo b h key lane k → IsIn b h k
+in_comes b h k key lane of comes =
+    in_lanes b lane.group 3 h comes.there k comes.cuts
+    (in_reaches b h comes.there lane.group of comes.reaches)
+
+-- the choice of the lane leaves the caller in the key's group
+pub comes_lane : (b : Board) (h m k : Hand) (g lane key : ℕ) → IsHandOf b h →
+    key ≤ greatest_key → Reaches b h g m → LoadsLanes b g 3 m k → k.number ≡ m.number →
+    CanSearch b g k → HasLane (opening_of b) g lane key (known k) → AddsNoEntry m k →
+    ComesTo b h key (record { group = g; number = lane }) k
+comes_lane b h m k g lane key of most reaches cuts number can has none =
+    let im = in_reaches b h m g of reaches in
+    let ik = in_lanes b g 3 h m k cuts im in
+    record {
+      there = m;
+      reaches = reaches;
+      cuts = cuts;
+      number = number ∙ reaches.number;
+      search = can;
+      own = group_stays (opening_of b) (known m) (known k) im.follows.built ik.follows.built key g
+          (reaches.answers key most);
+      in_lane = has;
+      no_entry = none ∙ reaches.no_entry;
+    }
 
 -- the key was missed
 pub missed : (b : Board) (start h : Hand) (g key : ℕ) → IsHandOf b start → IsIn b start h →
@@ -131,14 +162,16 @@ missed b start h g key of i can none own moment within absent =
     }
 
 -- behind a walk that found a gap
-pub missed_gap : (b : Board) (h l k : Hand) (g key before next : ℕ) → IsHandOf b h → OpensEmpty b →
-    key ≤ greatest_key → ComesTo b h g l → Walks b g l k → CanSearch b g k → AddsNoEntry l k →
-    FindsGap b g key before next l k → HasMissed b h k g key
-missed_gap b h l k g key before next of empty most comes walks can none gap =
+pub missed_gap : (b : Board) (h l k : Hand) (key : ℕ) (lane : Lane) (before next : ℕ) →
+    IsHandOf b h → OpensEmpty b → key ≤ greatest_key → ComesTo b h key lane l →
+    Walks b lane.group lane.number l k → CanSearch b lane.group k → AddsNoEntry l k →
+    FindsGap b lane.group lane.number key before next l k → HasMissed b h k lane.group key
+missed_gap b h l k key lane before next of empty most comes walks can none gap =
     let o = opening_of b in
-    let il = in_comes b h l g of comes in
-    let ik = in_walk b g h l walks.0 k walks.1 walks.2 il in
-    let own = group_reached b h l k g key comes il ik most in
+    let g : ℕ = lane.group in
+    let il = in_comes b h l key lane of comes in
+    let ik = in_walk b g lane.number h l walks.0 k walks.1 walks.2 il in
+    let own = group_reached b h l k key lane comes il ik most in
     let on = gap.within.5 in
     let built = built_at gap.moment (known k) on ik.follows.built in
     missed b h k g key of ik can (none ∙ comes.no_entry) own gap.moment

@@ -43,7 +43,12 @@ use Rattle.index_rule.proofs.RecordStepping.{goes_on_inside, now, since}
 use Rattle.index_rule.proofs.Stepping.{valid_after}
 use Rattle.delta_buffer.specs.Walks.{MakesIn, load_of_link}
 use Rattle.delta_buffer.proofs.CallSteps.{made_in_call}
-use Rattle.delta_buffer.proofs.Stepping.{before_after, search_after}
+use Rattle.delta_buffer.proofs.Stepping.{before_after}
+use Rattle.sorted_group.proofs.BufferLoads.{can_walk, search_after, searches_follow}
+use Rattle.sorted_group.specs.Standing.{CanSearch}
+use Rattle.index_machine.specs.Lanes.{HasLane}
+use Rattle.machine_buffers.specs.Groups.{Begins}
+use Rattle.index_rule.proofs.BufferStepping.{still_in_lane}
 use Rattle.point_calls.specs.declared.found.Gap.{Gap}
 use Rattle.point_calls.specs.PointCalls.{IsOneSection, OpensEmpty, StoresElsewhere}
 use Rattle.point_calls.specs.Putting.{HasFoundGap, IsMissing, MayLinkIn}
@@ -58,10 +63,19 @@ pub record IsQuiet (hand : ℕ) (w : Word) (d : Action) : Type 0 where
   pub free : TakesLock d → ⊥
   pub keeps : KeepsLog d
   pub elsewhere : StoresElsewhere w (store_of hand d)
+  pub unbegun : (group : ℕ) → Begins group d → ⊥
+
+-- the key stays in its lane
+lane_after : (b : Board) (g lane key : ℕ) (h k : Hand) (d : Action) → (Begins g d → ⊥) →
+    Makes b h d k → CanSearch b g h → HasLane (opening_of b) g lane key (known h) →
+    HasLane (opening_of b) g lane key (known k)
+lane_after b g lane key h k d never m can has =
+    still_in_lane b h k d can.call.of m g lane key never
+    (can_walk b g h (searches_follow b g h can)) has
 
 -- it still may link behind such a step
 pub may_on : (b : Board) (start h k : Hand) (gap : Gap) (d : Action) →
-    IsQuiet h.number (link_behind gap.group gap.before) d → Makes b h d k →
+    IsQuiet h.number (link_behind gap.lane.group gap.lane.number gap.before) d → Makes b h d k →
     MayLinkIn b start h gap → MayLinkIn b start k gap
 may_on b start h k gap d quiet m may =
     let o = opening_of b in
@@ -70,28 +84,31 @@ may_on b start h k gap d quiet m may =
     let call = call_step b start h k d quiet.none quiet.keeps of m may.call in
     record {
       call = call;
-      search = search_after b gap.group h k d quiet.none quiet.free m may.search;
+      search = search_after b gap.lane.group h k d quiet.none quiet.free m may.search;
       own = group_stays o (known h) (known k) may.call.follows.built call.follows.built gap.key
-          gap.group may.own;
+          gap.lane.group may.own;
       moment = may.moment;
       moment_within = within_on start h k may.moment may.moment_within on;
       absent = may.absent;
-      loaded = left_on b start h k (load_of_link gap.group gap.before gap.next) d
-          (link_behind gap.group gap.before) may.call.so_far.number of quiet.elsewhere m may.loaded;
+      loaded = left_on b start h k (load_of_link gap.lane.group gap.lane.number gap.before gap.next) d
+          (link_behind gap.lane.group gap.lane.number gap.before) may.call.so_far.number of quiet.elsewhere m may.loaded;
       between = (
-        before_after b gap.group gap.key gap.before h k d quiet.none m may.search may.between.0,
+        lane_after b gap.lane.group gap.lane.number gap.key h k d (quiet.unbegun gap.lane.group) m
+            may.search may.between.0,
+        before_after b gap.lane.group gap.lane.number gap.key gap.before h k d quiet.none m may.search
+            may.between.1,
         ⊎_elim (λ (z : gap.next ≡ 0). inl z)
-            (λ (z : (j : ℕ) × (role o gap.next (known h) ≡ InBuffer gap.group j) × (gap.key < j)).
+            (λ (z : (j : ℕ) × (role o gap.next (known h) ≡ InBuffer gap.lane.group j) × (gap.key < j)).
             inr (
               z.0,
-              still_row b h k d of m may.search.call.reading.caller quiet.none gap.group z.0 gap.next
+              still_row b h k d of m may.search.call.reading.caller quiet.none gap.lane.group z.0 gap.next
                   may.search.stands z.1,
               z.2,
             ))
-            may.between.1,
+            may.between.2,
       );
-      seen = now b h k d of m (λ z t. saw_open z gap.group t ≡ true)
-          (saw_open_on h.number gap.group (since b h k d of m) (known h)
+      seen = now b h k d of m (λ z t. saw_open z gap.lane.group t ≡ true)
+          (saw_open_on h.number gap.lane.group (since b h k d of m) (known h)
           (goes_on_inside b h k d of m quiet.none) may.seen);
     }
 
@@ -112,8 +129,8 @@ is_missing b start h gap empty may =
       may.moment,
       may.moment_within,
       gap_absent o may.moment empty (valid_at b may.moment (known h) on may.call.follows.valid) built
-          gap.key gap.group
-          (group_stays o (known h) may.moment may.call.follows.built built gap.key gap.group may.own)
+          gap.key gap.lane.group
+          (group_stays o (known h) may.moment may.call.follows.built built gap.key gap.lane.group may.own)
           may.absent,
     )
 
@@ -121,11 +138,11 @@ is_missing b start h gap empty may =
 
 -- behind the load of the phase
 pub may_link : (b : Board) (start h n : Hand) (gap : Gap) (word : ℕ) →
-    (found : HasFoundGap b start h gap) → (m : Makes b h (LoadPhase gap.group word) n) →
+    (found : HasFoundGap b start h gap) → (m : Makes b h (LoadPhase gap.lane.group word) n) →
     MayLinkIn b start n gap
 may_link b start h n gap word found m =
     let at = found.group_of in
-    let seen = group_seen b start h n gap.group gap.key word at m in
+    let seen = group_seen b start h n gap.lane.group gap.key word at m in
     let finds = found.finds in
     record {
       call = seen.call;
@@ -133,26 +150,28 @@ may_link b start h n gap word found m =
       own = seen.own;
       moment = finds.moment;
       moment_within = within_on start h n finds.moment finds.within
-          (goes_on b h n (LoadPhase gap.group word) at.search.call.of m);
+          (goes_on b h n (LoadPhase gap.lane.group word) at.search.call.of m);
       absent = finds.absent;
-      loaded = left_on b start h n (load_of_link gap.group gap.before gap.next)
-          (LoadPhase gap.group word) (link_behind gap.group gap.before) at.call.so_far.number at.search.call.of tt m
+      loaded = left_on b start h n (load_of_link gap.lane.group gap.lane.number gap.before gap.next)
+          (LoadPhase gap.lane.group word) (link_behind gap.lane.group gap.lane.number gap.before) at.call.so_far.number at.search.call.of tt m
           found.loaded;
       between = (
-        before_after b gap.group gap.key gap.before h n (LoadPhase gap.group word) tt m at.search
-            finds.belongs.0,
+        lane_after b gap.lane.group gap.lane.number gap.key h n (LoadPhase gap.lane.group word)
+            (λ z. let bad = z.3 in cc) m at.search finds.belongs.0,
+        before_after b gap.lane.group gap.lane.number gap.key gap.before h n
+            (LoadPhase gap.lane.group word) tt m at.search finds.belongs.1,
         ⊎_elim (λ (z : gap.next ≡ 0). inl z)
-            (λ (z : (j : ℕ) × (role (opening_of b) gap.next (known h) ≡ InBuffer gap.group j)
+            (λ (z : (j : ℕ) × (role (opening_of b) gap.next (known h) ≡ InBuffer gap.lane.group j)
             × (gap.key < j)).
             inr (
               z.0,
-              still_row b h n (LoadPhase gap.group word) at.search.call.of m at.search.call.reading.caller tt
-                  gap.group z.0 gap.next at.search.stands z.1,
+              still_row b h n (LoadPhase gap.lane.group word) at.search.call.of m at.search.call.reading.caller tt
+                  gap.lane.group z.0 gap.next at.search.stands z.1,
               z.2,
             ))
-            finds.belongs.1,
+            finds.belongs.2,
       );
-      seen = seen_open b start h n gap.group gap.key word at m;
+      seen = seen_open b start h n gap.lane.group gap.key word at m;
     }
 
 -- ---- what others do until the row is linked ----
@@ -170,14 +189,14 @@ only_inside c (e ∷ newer) only =
 
 -- the key belongs there as long as it has no row
 pub belongs_until : (b : Board) (start h : Hand) (gap : Gap) → OpensEmpty b →
-    MayLinkIn b start h gap → BelongsUntilLinked (opening_of b) h.number gap.group gap.key (known h)
+    MayLinkIn b start h gap → BelongsUntilLinked (opening_of b) h.number gap.lane.group gap.key (known h)
 belongs_until b start h gap empty may newer valid only none =
     let o = opening_of b in
     let stay = only_inside h.number newer only in
-    link_open o h.number gap.group gap.key may.search.call.reading.caller newer [] (known h) valid tt stay
+    link_open o h.number gap.lane.group gap.key may.search.call.reading.caller newer [] (known h) valid tt stay
     may.search.stands may.own
-    (λ a is. no_array o (known h) empty may.call.follows.valid may.call.follows.built gap.group gap.key a is)
-    (saw_open_on h.number gap.group newer (known h) stay may.seen) none
+    (λ a is. no_array o (known h) empty may.call.follows.valid may.call.follows.built gap.lane.group gap.key a is)
+    (saw_open_on h.number gap.lane.group newer (known h) stay may.seen) none
 
 -- so the filled row may be linked
 pub can_insert : (b : Board) (start h : Hand) (gap : Gap) (place : ℕ) → OpensEmpty b →
@@ -186,33 +205,40 @@ pub can_insert : (b : Board) (start h : Hand) (gap : Gap) (place : ℕ) → Open
     word (opening_of b) (known h) (PlaceWord place part.State)
     ≡ state_word (Unlocked (first_version (opening_of b)) false
     (word (opening_of b) (known h) (PlaceWord place part.Value))) →
-    CanInsert (opening_of b) h.number gap.group place gap.before gap.next (known h)
+    CanInsert (opening_of b) h.number gap.lane.group gap.lane.number place gap.before gap.next
+    (known h)
 can_insert b start h gap place empty may held is new =
     let o = opening_of b in
     record {
       filled = record { held = held; new_word = new; link_word = refl };
-      between = subst (λ (z : ℕ). BelongsBetween o gap.group z gap.before gap.next (known h)) (sym is)
+      between = subst (λ (z : ℕ). BelongsBetween o gap.lane.group gap.lane.number z gap.before gap.next (known h)) (sym is)
           may.between;
       permission = inl may.seen;
-      belongs = subst (λ (z : ℕ). BelongsUntilLinked o h.number gap.group z (known h)) (sym is)
+      belongs = subst (λ (z : ℕ). BelongsUntilLinked o h.number gap.lane.group z (known h)) (sym is)
           (belongs_until b start h gap empty may);
     }
 
 -- the words of its own row are other ones than the link
 pub own_elsewhere : (b : Board) (start h : Hand) (gap : Gap) (place : ℕ) (p : Part) →
     Holds (opening_of b) h.number place (known h) → MayLinkIn b start h gap →
-    same_word (PlaceWord place p) (link_behind gap.group gap.before) ≡ false
+    same_word (PlaceWord place p) (link_behind gap.lane.group gap.lane.number gap.before) ≡ false
 own_elsewhere b start h gap place p held may =
-    row_elsewhere (opening_of b) h.number gap.group gap.key gap.before place p (known h)
-    may.between.0 held
+    row_elsewhere (opening_of b) h.number gap.lane.group gap.lane.number gap.key gap.before place p
+    (known h) may.between.1 held
 
 -- behind a store to its row
 pub may_stored : (b : Board) (start h k : Hand) (gap : Gap) (place : ℕ) (p : Part) (value : ℕ) →
-    same_word (PlaceWord place p) (link_behind gap.group gap.before) ≡ false →
+    same_word (PlaceWord place p) (link_behind gap.lane.group gap.lane.number gap.before) ≡ false →
     Makes b h (StorePrivate place p value) k → MayLinkIn b start h gap → MayLinkIn b start k gap
 may_stored b start h k gap place p value apart m may =
     may_on b start h k gap (StorePrivate place p value)
-    (record { none = tt; free = λ z. z; keeps = λ o t log. refl; elsewhere = apart }) m may
+    (record {
+      none = tt;
+      free = λ z. z;
+      keeps = λ o t log. refl;
+      elsewhere = apart;
+      unbegun = λ g z. let bad = z.3 in cc;
+    }) m may
 
 -- behind the filling of its row
 pub may_filled : (b : Board) (start h k : Hand) (gap : Gap) (place value : ℕ) →
@@ -267,14 +293,14 @@ adds_there b start h k gap change same old may is adds =
     )
 
 -- a hand that linked its row holds none
-pub holds_none_linked : (b : Board) (h k : Hand) (g place p q : ℕ) (d : Change) → IsHandOf b h →
-    IsCaller (opening_of b) h.number → Makes b h (LinkRow g place d p q) k →
+pub holds_none_linked : (b : Board) (h k : Hand) (g lane place p q : ℕ) (d : Change) → IsHandOf b h →
+    IsCaller (opening_of b) h.number → Makes b h (LinkRow g lane place d p q) k →
     HoldsNone (opening_of b) k.number (known k)
-holds_none_linked b h k g place p q d of caller m =
+holds_none_linked b h k g lane place p q d of caller m =
     let o = opening_of b in
     let t : Execution = m.acts.0 ++ known h in
-    let valid = valid_after b h k (LinkRow g place d p q) of m in
-    now b h k (LinkRow g place d p q) of m (λ z u. (x : ℕ) → role o x u ≡ HeldBy z → ⊥)
+    let valid = valid_after b h k (LinkRow g lane place d p q) of m in
+    now b h k (LinkRow g lane place d p q) of m (λ z u. (x : ℕ) → role o x u ≡ HeldBy z → ⊥)
     (λ x held. dite (ℕ_discrete place x)
     (λ (here : place ≡ x). in_buffer
     (sym (choice-same place x (InBuffer g (key_of d)) (role o x t) here) ∙ held))

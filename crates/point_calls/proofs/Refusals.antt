@@ -8,7 +8,8 @@ use Rattle.index_rule.specs.declared.hand.Hand.{Hand}
 use Rattle.tried_calls.specs.declared.tried.Tried.{Tried}
 use Rattle.index_rule.specs.Hands.{Makes, known, opening_of}
 use Rattle.index_rule.specs.Moments.{AddsNoEntry}
-use Rattle.delta_buffer.specs.Searching.{CanSearch, IsReachedRow}
+use Rattle.delta_buffer.specs.Searching.{IsReachedRow}
+use Rattle.sorted_group.specs.Standing.{CanSearch}
 use Rattle.record_cell.specs.declared.answers.Wrote.{Wrote}
 use Rattle.record_cell.specs.declared.answers.Wrote.TheVariants as wrote
 use Rattle.record_cell.specs.Conditions.{IsLockedState}

@@ -20,7 +20,8 @@ use Rattle.index_rule.specs.Moments.{AddsChange, AddsNoEntry}
 use Rattle.index_rule.specs.Records.{key_at, or_zero}
 use Rattle.index_rule.proofs.RecordSteps.{place_below}
 use Rattle.index_rule.proofs.Standing.{keyed_place}
-use Rattle.delta_buffer.specs.Searching.{CanSearch, IsReachedRow}
+use Rattle.delta_buffer.specs.Searching.{IsReachedRow}
+use Rattle.sorted_group.specs.Standing.{CanSearch}
 use Rattle.record_cell.specs.declared.answers.Wrote.TheVariants as wrote
 use Rattle.record_cell.specs.Finding.{Finds, HasSameKey}
 use Rattle.record_cell.specs.Writes.{FindsLastVersion, Writes, changing, put_at, remove_at, worn_word}

@@ -29,9 +29,10 @@ use Rattle.index_rule.proofs.BufferStepping.{opened_walkable, phase_found}
 use Rattle.index_rule.proofs.BuiltLaws.{groups_as_opened}
 use Rattle.index_rule.proofs.RecordReading.{no_entry}
 use Rattle.index_rule.proofs.RecordStepping.{now, same_role, still_reached}
-use Rattle.delta_buffer.specs.Searching.{CanSearch, FindsGap, IsReachedRow}
+use Rattle.delta_buffer.specs.Searching.{FindsGap, IsReachedRow}
+use Rattle.sorted_group.specs.Standing.{CanSearch}
 use Rattle.delta_buffer.specs.Walks.{Walks, load_of_link}
-use Rattle.delta_buffer.proofs.Stepping.{search_after}
+use Rattle.sorted_group.proofs.BufferLoads.{search_after}
 use Rattle.record_cell.specs.declared.answers.Wrote.TheVariants as wrote
 use Rattle.record_cell.specs.Conditions.{IsLiveState, IsTombstoneState}
 use Rattle.record_cell.specs.Finding.{Finds}
@@ -217,8 +218,10 @@ found_group b start l n g key of own i can none =
 
 -- and found a gap there
 pub found_gap : (b : Board) (start l n : Hand) (found : Gap) → IsIn b start l →
-    IsInGroupOf b start n found.group found.key → Walks b found.group l n →
-    FindsGap b found.group found.key found.before found.next l n → HasFoundGap b start n found
+    IsInGroupOf b start n found.lane.group found.key →
+    Walks b found.lane.group found.lane.number l n →
+    FindsGap b found.lane.group found.lane.number found.key found.before found.next l n →
+    HasFoundGap b start n found
 found_gap b start l n found i at walks gap =
     record {
       group_of = at;
@@ -229,7 +232,7 @@ found_gap b start l n found i at walks gap =
           continues_trans (known start) (known l) gap.loaded.0 i.since gap.loaded.1,
           subst
               (λ (z : ℕ).
-              event z (load_of_link found.group found.before found.next) ∷ gap.loaded.0 ≡ gap.moment)
+              event z (load_of_link found.lane.group found.lane.number found.before found.next) ∷ gap.loaded.0 ≡ gap.moment)
               i.number gap.loaded.2,
         );
         within = within_whole b start l n gap.moment i gap.within;
@@ -240,6 +243,6 @@ found_gap b start l n found i at walks gap =
         belonged = gap.belonged;
         belongs = gap.belongs;
       };
-      loaded = walked_at b found.group start l n (load_of_link found.group found.before found.next)
-          (link_behind found.group found.before) gap.moment i walks gap.loaded gap.within.5;
+      loaded = walked_at b found.lane.group found.lane.number start l n (load_of_link found.lane.group found.lane.number found.before found.next)
+          (link_behind found.lane.group found.lane.number found.before) gap.moment i walks gap.loaded gap.within.5;
     }

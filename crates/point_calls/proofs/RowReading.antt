@@ -15,9 +15,10 @@ use Rattle.index_rule.specs.Hands.{IsHandOf, Makes, known, opening_of}
 use Rattle.index_rule.specs.Looks.{MayWriteLook}
 use Rattle.index_rule.specs.Moments.{AddsNoEntry}
 use Rattle.index_rule.specs.Records.{key_at, or_zero}
-use Rattle.delta_buffer.specs.Searching.{CanSearch, IsReachedRow}
+use Rattle.delta_buffer.specs.Searching.{IsReachedRow}
+use Rattle.sorted_group.specs.Standing.{CanSearch}
 use Rattle.delta_buffer.proofs.CallSteps.{just_made}
-use Rattle.delta_buffer.proofs.Stepping.{search_after}
+use Rattle.sorted_group.proofs.BufferLoads.{search_after}
 use Rattle.index_machine.proofs.Executions.{continues_same}
 use Rattle.index_rule.proofs.Calls.{is_within}
 use Rattle.record_cell.specs.Conditions.{IsLockedState}

@@ -27,8 +27,8 @@ exchanges_head _ = false
 
 -- a link of a buffer was to be exchanged
 abbrev pub exchanges_link : Action → Bool
-exchanges_link (LinkRow group place change before next) = true
-exchanges_link (FailLink group before expected found) = true
+exchanges_link (LinkRow group lane place change before next) = true
+exchanges_link (FailLink group lane before expected found) = true
 exchanges_link _ = false
 
 -- ---- how many a hand made ----

@@ -10,17 +10,31 @@ use Rattle.index_rule.specs.declared.hand.Hand.{Hand}
 use Rattle.index_rule.specs.Buffers.{CanSeePhase}
 use Rattle.index_rule.specs.Hands.{MakesAll, known, opening_of}
 use Rattle.index_rule.specs.Moments.{AddsNoEntry, IsWithin}
-use Rattle.delta_buffer.specs.Searching.{CanSearch}
+use Rattle.index_machine.specs.Lanes.{HasLane}
+use Rattle.sorted_group.specs.declared.answers.Lane.{Lane}
+use Rattle.sorted_group.specs.Loads.{LoadsLanes}
+use Rattle.sorted_group.specs.Standing.{CanSearch}
 use Rattle.point_calls.specs.PointCalls.{IsCallSoFar, KeepsRows}
 
 -- the caller loaded the root and the group of its one slot, and stands in this group, which answers for
 -- every key
-pub record ComesTo (b : Board) (h : Hand) (group : ℕ) (k : Hand) : Type 0 where
+pub record Reaches (b : Board) (h : Hand) (group : ℕ) (k : Hand) : Type 0 where
   pub number : k.number ≡ h.number
   pub search : CanSearch b group k
   pub root : ℕ
   pub steps : MakesAll b h (LoadSlotGroup 0 0 group ∷ LoadRoot root ∷ []) k
   pub answers : (key : ℕ) → key ≤ greatest_key → group_of (opening_of b) key (known k) ≡ group
+  pub no_entry : AddsNoEntry h k
+
+-- the caller came to the group, which is the key's, and loaded which of its lanes has the key
+pub record ComesTo (b : Board) (h : Hand) (key : ℕ) (lane : Lane) (k : Hand) : Type 0 where
+  pub there : Hand
+  pub reaches : Reaches b h lane.group there
+  pub cuts : LoadsLanes b lane.group 3 there k
+  pub number : k.number ≡ h.number
+  pub search : CanSearch b lane.group k
+  pub own : group_of (opening_of b) key (known k) ≡ lane.group
+  pub in_lane : HasLane (opening_of b) lane.group lane.number key (known k)
   pub no_entry : AddsNoEntry h k
 
 -- in the call so far the key was not in the map at a moment, and the caller can load the phase of the

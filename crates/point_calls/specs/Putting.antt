@@ -25,7 +25,8 @@ use Rattle.tried_calls.specs.declared.tried.Why.TheVariants as why
 use Rattle.index_rule.specs.Hands.{known, opening_of}
 use Rattle.index_rule.specs.Moments.{AddsChange, AddsNoEntry, IsWithin}
 use Rattle.row_arena.specs.Fullness.{RowsAreUsedUp}
-use Rattle.delta_buffer.specs.Searching.{BelongsBetween, CanSearch, FindsGap, IsReachedRow}
+use Rattle.delta_buffer.specs.Searching.{BelongsBetween, FindsGap, IsReachedRow}
+use Rattle.sorted_group.specs.Standing.{CanSearch}
 use Rattle.delta_buffer.specs.Walks.{MakesIn, load_of_link}
 use Rattle.record_cell.specs.Conditions.{IsTombstoneState}
 use Rattle.point_calls.specs.declared.found.FoundRow.{FoundRow}
@@ -57,10 +58,10 @@ pub record HasFoundTombstone (b : Board) (start h : Hand) (row : FoundRow) (firs
 -- it found no row of the key there, which belongs into this gap; it loaded the link there, where it
 -- has stored nothing since
 pub record HasFoundGap (b : Board) (start h : Hand) (gap : Gap) : Type 0 where
-  pub group_of : IsInGroupOf b start h gap.group gap.key
-  pub finds : FindsGap b gap.group gap.key gap.before gap.next start h
-  pub loaded : MakesAt start (link_behind gap.group gap.before)
-      (load_of_link gap.group gap.before gap.next) h
+  pub group_of : IsInGroupOf b start h gap.lane.group gap.key
+  pub finds : FindsGap b gap.lane.group gap.lane.number gap.key gap.before gap.next start h
+  pub loaded : MakesAt start (link_behind gap.lane.group gap.lane.number gap.before)
+      (load_of_link gap.lane.group gap.lane.number gap.before gap.next) h
 
 -- ---- why it is to be tried again ----
 
@@ -79,10 +80,11 @@ pub record MeetsFrozen (b : Board) (key : ℕ) (h : Hand) (group word : ℕ) (k 
 -- the call stored nothing there in between, and the hand holds the row that was to be linked
 pub record LosesLink (b : Board) (h : Hand) (address expected found : ℕ) (k : Hand) : Type 0 where
   pub group : ℕ
+  pub lane : ℕ
   pub before : ℕ
-  pub is_address : address ≡ address_of (limits (opening_of b)) (link_behind group before)
-  pub steps : MakesThen h (link_behind group before) (load_of_link group before expected)
-      (FailLink group before expected found) k
+  pub is_address : address ≡ address_of (limits (opening_of b)) (link_behind group lane before)
+  pub steps : MakesThen h (link_behind group lane before) (load_of_link group lane before expected)
+      (FailLink group lane before expected found) k
   pub differ : expected ≢ found
   pub held : (place : ℕ) × Holds (opening_of b) k.number place (known k)
 
@@ -131,15 +133,16 @@ KeepsSpare old answer new = answer ≢ tried.Done None → IsSome old → IsSome
 -- loaded the link there, where it has stored nothing since, and the key had no row at a moment
 pub record MayLinkIn (b : Board) (start h : Hand) (gap : Gap) : Type 0 where
   pub call : IsCallSoFar b start h
-  pub search : CanSearch b gap.group h
-  pub own : group_of (opening_of b) gap.key (known h) ≡ gap.group
+  pub search : CanSearch b gap.lane.group h
+  pub own : group_of (opening_of b) gap.key (known h) ≡ gap.lane.group
   pub moment : Execution
   pub moment_within : IsWithin start h moment
-  pub absent : look (rows gap.group moment) gap.key ≡ None
-  pub loaded : MakesAt start (link_behind gap.group gap.before)
-      (load_of_link gap.group gap.before gap.next) h
-  pub between : BelongsBetween (opening_of b) gap.group gap.key gap.before gap.next (known h)
-  pub seen : saw_open h.number gap.group (known h) ≡ true
+  pub absent : look (rows gap.lane.group moment) gap.key ≡ None
+  pub loaded : MakesAt start (link_behind gap.lane.group gap.lane.number gap.before)
+      (load_of_link gap.lane.group gap.lane.number gap.before gap.next) h
+  pub between : BelongsBetween (opening_of b) gap.lane.group gap.lane.number gap.key gap.before
+      gap.next (known h)
+  pub seen : saw_open h.number gap.lane.group (known h) ≡ true
 
 -- no row could be taken, and there was no spare one: none was free, or the exchange of the head was lost
 abbrev pub GetsNoRow : Board → ℕ → Hand → Option PrivateRow → Tried (Option ℕ) → Hand → Type 0

@@ -1,4 +1,6 @@
-//! What a walk through the buffer of a group found of a key.
+//! What a walk through the lane of a key found of it.
+
+use sorted_group::Lane;
 
 /// The row of a key.
 #[derive(Clone, Copy)]
@@ -8,11 +10,11 @@ pub(crate) struct FoundRow {
     pub(crate) key: u64,
 }
 
-/// Where a key without a row belongs: behind the row at `before`, or the head where this is 0, and
-/// ahead of the row at `next`, or of none where this is 0.
+/// Where a key without a row belongs: behind the row at `before`, or the head of its lane where this is
+/// 0, and ahead of the row at `next`, or of none where this is 0.
 #[derive(Clone, Copy)]
 pub(crate) struct Gap {
-    pub(crate) group: u32,
+    pub(crate) lane: Lane,
     pub(crate) before: u32,
     pub(crate) next: u32,
     pub(crate) key: u64,

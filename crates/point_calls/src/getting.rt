@@ -27,13 +27,13 @@ pub fn get(board: &Board, hand: &mut Hand, key: u64) -> Tried<Option<u64>>
     ensures tells { GetTells board.now key hand.old result hand.new }
 {
     let start = Snapshot::of(&*hand);
-    let group = locate(board, hand);
-    let Found::Row(place) = find(board, hand, group, key) else {
-        return miss(board, hand, &start, group, key);
+    let lane = locate(board, hand, key);
+    let Found::Row(place) = find(board, hand, lane, key) else {
+        return miss(board, hand, &start, lane.group, key);
     };
     match read(board, hand, place) {
         Read::Live(value) => look(board, hand, &start, key, Some(value)),
-        Read::Gone => miss(board, hand, &start, group, key),
+        Read::Gone => miss(board, hand, &start, lane.group, key),
         Read::Locked { place, word } => Tried::Again(Why::Locked { place, word }),
         Read::Changed {
             place,

@@ -40,7 +40,7 @@ pub(crate) fn link_new(
     ensures full { IsFullOnly spare.old result }
     ensures kept { KeepsSpare spare.old result spare.new }
 {
-    let group = gap.group;
+    let group = gap.lane.group;
     let word = board.load_phase(hand, group);
     if word != Phase::Open.word() {
         return Tried::Again(Why::Frozen { group, word });
@@ -50,11 +50,11 @@ pub(crate) fn link_new(
         Err(refusal) => return refusal,
     };
     fill(board, hand, &mut row, gap.key, value);
-    match insert(board, hand, group, gap.before, gap.next, row) {
+    match insert(board, hand, gap.lane, gap.before, gap.next, row) {
         Linked::Done => Tried::Done(None),
         Linked::Raced { row, found } => {
             keep(spare, row);
-            let link = board.link_address(group, gap.before);
+            let link = board.link_address(group, gap.lane.number, gap.before);
             raced(link, gap.next as u64, found)
         }
     }

@@ -1,22 +1,34 @@
-//! The group of a key, and the look that ends a call which found it or missed it.
+//! The group and the lane of a key, and the look that ends a call which found it or missed it.
 ghost use Rattle.std.specs.Prelude.{◌≡◌, None};
 ghost use Rattle.index_rule.specs.Looks.{MayWriteLook};
 ghost use Rattle.tried_calls.specs.declared.tried.Tried.TheVariants.{Done};
 ghost use Rattle.index_rule.specs.Calls.{CanCall};
 ghost use Rattle.point_calls.specs.Exchanges.{MakesFewExchanges, no_exchange};
 ghost use Rattle.point_calls.specs.PointCalls.{IsOneSection, KeepsRows, LooksUp};
-ghost use Rattle.point_calls.specs.Lookup.{ComesTo, HasMissed};
+ghost use Rattle.point_calls.specs.Lookup.{ComesTo, HasMissed, Reaches};
 
 use index_rule::{Board, Hand};
+use sorted_group::{Lane, lane_for};
 use std::marker::Brand;
 use std::snapshot::Snapshot;
 use tried_calls::Tried;
 
+/// The lane of the key: from the root to the key's group, and there by the cuts of its lanes.
+#[inline]
+pub(crate) fn locate(board: &Board, hand: &mut Hand, key: u64) -> Lane
+    requires { CanCall board.now hand.old }
+    ensures comes { ComesTo board.now hand.old key result hand.new }
+    ensures rows { KeepsRows board.now hand.old hand.new }
+{
+    let group = reach(board, hand);
+    lane_for(board, hand, group, key)
+}
+
 /// Loads the group of the root's slot.
 #[inline]
-pub(crate) fn locate(board: &Board, hand: &mut Hand) -> u32
+fn reach(board: &Board, hand: &mut Hand) -> u32
     requires { CanCall board.now hand.old }
-    ensures comes { ComesTo board.now hand.old result hand.new }
+    ensures comes { Reaches board.now hand.old result hand.new }
     ensures rows { KeepsRows board.now hand.old hand.new }
 {
     board.load_root(hand);

@@ -38,11 +38,11 @@ pub fn put(
     ensures kept { KeepsSpare spare.old result spare.new }
 {
     let start = Snapshot::of(&*hand);
-    let group = locate(board, hand);
-    match find(board, hand, group, key) {
+    let lane = locate(board, hand, key);
+    match find(board, hand, lane, key) {
         Found::Gap { before, next } => {
             let gap = Gap {
-                group,
+                lane,
                 before,
                 next,
                 key,
@@ -50,7 +50,11 @@ pub fn put(
             link_new(board, hand, &start, spare, gap, value)
         }
         Found::Row(place) => {
-            let row = FoundRow { group, place, key };
+            let row = FoundRow {
+                group: lane.group,
+                place,
+                key,
+            };
             overwrite(board, hand, &start, row, value)
         }
     }

@@ -28,13 +28,13 @@ pub fn remove(board: &Board, hand: &mut Hand, key: u64) -> Tried<Option<u64>>
     ensures tells { RemoveTells board.now key hand.old result hand.new }
 {
     let start = Snapshot::of(&*hand);
-    let group = locate(board, hand);
-    let Found::Row(place) = find(board, hand, group, key) else {
-        return miss(board, hand, &start, group, key);
+    let lane = locate(board, hand, key);
+    let Found::Row(place) = find(board, hand, lane, key) else {
+        return miss(board, hand, &start, lane.group, key);
     };
     match kill(board, hand, place) {
         Wrote::Done { old } => Tried::Done(old),
-        Wrote::Gone { .. } => miss(board, hand, &start, group, key),
+        Wrote::Gone { .. } => miss(board, hand, &start, lane.group, key),
         refusal => refused(refusal),
     }
 }

@@ -7,6 +7,8 @@
 #[cfg(test)]
 mod commands;
 #[cfg(test)]
+mod phases;
+#[cfg(test)]
 mod programs;
 #[cfg(test)]
 mod sessions;

@@ -1,18 +1,25 @@
 //! Worked sessions, and what stops one.
-use crate::streams::{Unreadable, Unwritable};
+use crate::streams::{ErrsAtOneFlush, Unreadable, Unwritable};
 use line_session::{BytesSink, BytesSource};
-use std::alloc::Global;
+use std::alloc::{AllocError, Global};
 use std::io::Read;
-use std::sync::Wait;
+use std::process::Abort;
+use std::sync::{Arc, Wait};
 use std::test::Fail;
-use xindex::{StandardInput, StandardOutput, Status, xindex};
+use std::thread::Threads;
+use xindex::{NoGate, StandardInput, StandardOutput, Status, xindex};
 
 const SESSION: &[u8] = b"put 5 50\nget 5\nput 5 51\nremove 5\nget 5\nremove 5\n";
 
 const REPLIES: &[u8] = b"new\nvalue 50\nold 50\nold 51\nnone\nnone\n";
 
+// A gate that holds no request.
+fn no_gate(alloc: Global) -> Result<Arc<NoGate>, AllocError> {
+    Ok(Arc::new(alloc, NoGate)?)
+}
+
 // The program on these words and this input, from bytes to bytes.
-fn assert_writes<R: Wait + Copy + std::process::Abort>(
+fn assert_writes<R: Threads + Wait + Copy + Send + Sync + Abort + 'static>(
     rt: &R,
     alloc: Global,
     words: &[&str],
@@ -23,7 +30,7 @@ fn assert_writes<R: Wait + Copy + std::process::Abort>(
     for step in [1, 4096] {
         let mut source = BytesSource::new(alloc, input, step, &[])?;
         let mut sink = BytesSink::new(alloc, 1000, &[])?;
-        let ended = xindex(rt, alloc, words, &mut source, &mut sink).status;
+        let ended = xindex(rt, alloc, words, &mut source, &mut sink, no_gate(alloc)?).status;
         assert_eq!(rt; ended, status, "at steps of {step}");
         assert_eq!(rt; sink.bytes(), output, "at steps of {step}");
     }
@@ -187,7 +194,14 @@ fn a_session_hands_out_a_pass_for_each_caller_and_a_refusal_none(
     for (words, many) in [(["pipe"].as_slice(), Some(4)), (&["pipe", "--due=0"], None)] {
         let mut source = BytesSource::new(rt.alloc(), SESSION, 7, &[])?;
         let mut sink = BytesSink::new(rt.alloc(), 1000, &[])?;
-        let outcome = xindex(&rt, rt.alloc(), words, &mut source, &mut sink);
+        let outcome = xindex(
+            &rt,
+            rt.alloc(),
+            words,
+            &mut source,
+            &mut sink,
+            no_gate(rt.alloc())?,
+        );
         let passes = outcome.opened.map(|opened| opened.passes.len());
         assert_eq!(rt; passes, many);
     }
@@ -224,7 +238,15 @@ fn a_fault_has_its_status_and_loses_no_reply_before_it(rt: HostRuntime) -> Resul
         let mut source = BytesSource::new(rt.alloc(), SESSION, 9, &[read])?;
         let mut sink = BytesSink::new(rt.alloc(), room, &[write])?;
         let words: Vec<&str> = line.split(' ').collect(rt.alloc())?;
-        let ended = xindex(&rt, rt.alloc(), &words, &mut source, &mut sink).status;
+        let ended = xindex(
+            &rt,
+            rt.alloc(),
+            &words,
+            &mut source,
+            &mut sink,
+            no_gate(rt.alloc())?,
+        )
+        .status;
         assert_eq!(rt;
             ended,
             status,
@@ -243,14 +265,62 @@ fn a_fault_has_its_status_and_loses_no_reply_before_it(rt: HostRuntime) -> Resul
 fn an_error_of_a_stream_has_its_status(rt: HostRuntime) -> Result<(), Fail> {
     let mut source = StandardInput::new(SESSION.chain(Unreadable));
     let mut sink = BytesSink::new(rt.alloc(), 1000, &[])?;
-    let outcome = xindex(&rt, rt.alloc(), &["pipe"], &mut source, &mut sink);
+    let outcome = xindex(
+        &rt,
+        rt.alloc(),
+        &["pipe"],
+        &mut source,
+        &mut sink,
+        no_gate(rt.alloc())?,
+    );
     assert_eq!(rt; outcome.status.number(), 3);
     assert_eq!(rt; sink.bytes(), REPLIES);
     for writer in [Unwritable::ErrsAtWrite, Unwritable::ErrsAtFlush] {
         let mut source = StandardInput::new(SESSION);
-        let mut sink = StandardOutput::new(writer);
-        let outcome = xindex(&rt, rt.alloc(), &["pipe"], &mut source, &mut sink);
+        let mut sink = StandardOutput::new(rt.alloc(), writer)?;
+        let outcome = xindex(
+            &rt,
+            rt.alloc(),
+            &["pipe"],
+            &mut source,
+            &mut sink,
+            no_gate(rt.alloc())?,
+        );
         assert_eq!(rt; outcome.status.number(), 4, "{writer:?}");
+    }
+    Ok(())
+}
+
+#[test]
+fn an_error_of_any_flush_is_told_of_the_last_one_too(rt: HostRuntime) -> Result<(), Fail> {
+    // The replies go out before the second and the third read, and at the end.
+    for (flush, status) in [(0, 4), (1, 4), (2, 4), (3, 0)] {
+        let reader = b"put 5 50\n".chain(b"get 5\n".chain(b"get 6".as_slice()));
+        let mut source = StandardInput::new(reader);
+        let mut sink = StandardOutput::new(rt.alloc(), ErrsAtOneFlush(flush))?;
+        let outcome = xindex(
+            &rt,
+            rt.alloc(),
+            &["pipe"],
+            &mut source,
+            &mut sink,
+            no_gate(rt.alloc())?,
+        );
+        assert_eq!(rt; outcome.status.number(), status, "at flush {flush}");
+    }
+    for (input, words) in [("quit\n", "pipe"), ("", "frob"), ("", "pipe --due 0")] {
+        let words: Vec<&str> = words.split(' ').collect(rt.alloc())?;
+        let mut source = StandardInput::new(input.as_bytes());
+        let mut sink = StandardOutput::new(rt.alloc(), ErrsAtOneFlush(0))?;
+        let outcome = xindex(
+            &rt,
+            rt.alloc(),
+            &words,
+            &mut source,
+            &mut sink,
+            no_gate(rt.alloc())?,
+        );
+        assert_eq!(rt; outcome.status.number(), 4, "{input:?}");
     }
     Ok(())
 }

@@ -2,7 +2,7 @@
 ghost use Rattle.std.specs.Prelude.{◌≤◌};
 
 use line_session::{
-    BytesSink, BytesSource, CountSink, Ended, Sink, Source, SureSource, Took, serve_one,
+    BytesSink, BytesSource, CountSink, Ended, NoGate, Sink, Source, SureSource, Took, serve_one,
 };
 use map_model::PlainMap;
 use std::alloc::Global;
@@ -24,7 +24,7 @@ fn served<R: Wait + Copy, S: Source>(
     requires { 1 ≤ most }
 {
     let mut map = PlainMap::with_room(alloc, 2)?;
-    Ok(serve_one(rt, &mut map, source, sink, most))
+    Ok(serve_one(rt, &mut map, source, sink, &NoGate, 0, most))
 }
 
 #[test]
@@ -115,7 +115,7 @@ fn a_sink_may_only_count(rt: HostRuntime) -> Result<(), Fail> {
     let mut source = SureSource::new(rt.alloc(), INPUT, 4096)?;
     let mut sink = CountSink::new();
     assert_eq!(rt;
-        serve_one(&rt, &mut map, &mut source, &mut sink, 100),
+        serve_one(&rt, &mut map, &mut source, &mut sink, &NoGate, 0, 100),
         Ended::End
     );
     assert_eq!(rt; sink.count(), REPLIES.len() as u64);

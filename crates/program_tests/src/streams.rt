@@ -1,5 +1,5 @@
 //! Readers and writers that err, and what the real ends tell of them.
-use line_session::{Gave, Sink, Source, Took};
+use line_session::{Gave, Sink, SinkFailed, Source, Took};
 use std::io::{Error, ErrorKind, Read, Result, Write};
 use std::test::Fail;
 use xindex::{StandardInput, StandardOutput};
@@ -39,6 +39,26 @@ impl Write for Unwritable {
     }
 }
 
+// A writer that errs at the flush with this number, from 0.
+#[derive(Drop)]
+pub(crate) struct ErrsAtOneFlush(pub(crate) u32);
+
+impl Write for ErrsAtOneFlush {
+    fn write(&mut self, piece: &[u8]) -> Result<usize> {
+        Ok(piece.len())
+    }
+
+    fn flush(&mut self) -> Result<()> {
+        match self.0.checked_sub(1) {
+            Some(left) => {
+                self.0 = left;
+                Ok(())
+            }
+            None => Err(Error::from(ErrorKind::Other)),
+        }
+    }
+}
+
 #[test]
 fn a_reader_is_read_to_its_end(rt: HostRuntime) {
     let mut source = StandardInput::new(b"get 5\n".as_slice());
@@ -58,23 +78,49 @@ fn a_read_that_errs_is_no_end(rt: HostRuntime) {
     assert_eq!(rt; source.faults(), 1);
 }
 
+// What the first full room takes.
+const FULL: [u8; 65_536] = [b'a'; 65_536];
+
 #[test]
-fn a_piece_is_written(rt: HostRuntime) -> std::result::Result<(), Fail> {
-    let mut sink = StandardOutput::new(Vec::new(rt.alloc()));
+fn a_piece_is_written_by_a_flush(rt: HostRuntime) -> std::result::Result<(), Fail> {
+    let mut sink = StandardOutput::new(rt.alloc(), Vec::new(rt.alloc()))?;
     assert_eq!(rt; sink.take(b"none\n"), Gave::Bytes(5));
+    assert_eq!(rt; sink.flush(), Ok(()));
     assert_eq!(rt; sink.faults(), 0);
     Ok(())
 }
 
 #[test]
-fn a_write_that_takes_nothing_or_errs_or_is_not_flushed_has_failed(rt: HostRuntime) {
+fn a_write_that_takes_nothing_or_errs_or_is_not_flushed_fails_at_the_flush(
+    rt: HostRuntime,
+) -> std::result::Result<(), Fail> {
     for writer in [
         Unwritable::TakesNothing,
         Unwritable::ErrsAtWrite,
         Unwritable::ErrsAtFlush,
     ] {
-        let mut sink = StandardOutput::new(writer);
-        assert_eq!(rt; sink.take(b"none\n"), Gave::Failed, "{writer:?}");
-        assert_eq!(rt; sink.faults(), 1, "{writer:?}");
+        let mut sink = StandardOutput::new(rt.alloc(), writer)?;
+        assert_eq!(rt; sink.flush(), Ok(()), "{writer:?}");
+        assert_eq!(rt; sink.take(b"none\n"), Gave::Bytes(5), "{writer:?}");
+        assert_eq!(rt; sink.flush(), Err(SinkFailed), "{writer:?}");
+        assert_eq!(rt; sink.flush(), Err(SinkFailed), "{writer:?}");
+        assert_eq!(rt; sink.faults(), 2, "{writer:?}");
     }
+    Ok(())
+}
+
+#[test]
+fn what_is_gathered_is_flushed_where_there_is_no_room(
+    rt: HostRuntime,
+) -> std::result::Result<(), Fail> {
+    let mut sink = StandardOutput::new(rt.alloc(), Vec::new(rt.alloc()))?;
+    assert_eq!(rt; sink.take(&FULL[1..]), Gave::Bytes(65_535));
+    assert_eq!(rt; sink.take(b"none\n"), Gave::Bytes(1));
+    assert_eq!(rt; sink.take(b"one\n"), Gave::Bytes(4));
+    let mut sink = StandardOutput::new(rt.alloc(), Unwritable::ErrsAtWrite)?;
+    assert_eq!(rt; sink.take(&FULL), Gave::Bytes(65_536));
+    assert_eq!(rt; sink.faults(), 0);
+    assert_eq!(rt; sink.take(b"none\n"), Gave::Failed);
+    assert_eq!(rt; sink.faults(), 1);
+    Ok(())
 }

@@ -1,7 +1,7 @@
 -- As long as nothing is rebuilt, callers stand in group 0 alone, and so each row of a buffer is there.
 use Rattle.std.specs.Prelude.{◌&&◌}
 use Rattle.std.proofs.Common.{◌≡◌, ◌⊎◌, inl, inr, ⊎_elim, ℕ, Bool, true, false, cond, ◌==◌, Option}
-use Rattle.std.proofs.Common.{Some, None, [], ◌∷◌, refl, sym, ap, ◌∙◌, subst, arith}
+use Rattle.std.proofs.Common.{Some, None, [], ◌∷◌, length, ◌+◌, ◌<◌, ◌≤◌, refl, sym, ap, ◌∙◌, subst, arith}
 use Rattle.std.proofs.lemmas.Bool.{eqb-true}
 use Rattle.word_layout.specs.declared.phase.Phase.TheVariants.{Open, Opened}
 use Rattle.word_layout.specs.Phase.{word_of_phase}
@@ -17,6 +17,15 @@ use Rattle.index_machine.specs.Reaching.{saw_opened}
 use Rattle.index_machine.specs.Permissions.{MayInsertInto}
 use Rattle.index_machine.specs.RecordConditions.{MayWalk}
 use Rattle.index_machine.specs.Rows.{InBuffer, role}
+use Rattle.index_machine.specs.Lanes.{HasLane, begun_after, begun_word, cut, lanes}
+use Rattle.index_machine.specs.OpeningRows.{keys_in}
+use Rattle.index_machine.specs.Words.{opening_cut, opening_word, word}
+use Rattle.machine_buffers.specs.Lanes.{lane_end, link_from}
+use Rattle.map_model.specs.Map.{Map}
+use Rattle.rebuild_plan.specs.Plan.{lane_count}
+use Rattle.word_layout.specs.Words.{Header}
+use Rattle.word_layout.specs.declared.headers.HeaderWord.{HeaderWord}
+use Rattle.word_layout.specs.declared.headers.HeaderWord.TheVariants as header
 use Rattle.index_machine.specs.Sections.{IsCaller, IsKeeper, IsReading}
 use Rattle.index_machine.proofs.OpeningRows.{opening_role-buffer}
 use Rattle.index_machine.proofs.Options.{none_some, not_so}
@@ -132,6 +141,42 @@ no_rebuild : (g : ℕ) (t : Execution) → AreBuilt t → rebuild g t ≡ None
 no_rebuild g [] built = refl
 no_rebuild g (e ∷ t) built = none_rebuilt g e.action (rebuild g t) built.0 (no_rebuild g t built.1)
 
+-- what the header of group 0 held at the opening is what it was begun with
+none_begun : (g now : ℕ) (d : Action) (w : ℕ) → IsBuilt d → begun_after g now d w ≡ w
+none_begun g now (NewGroup h low high first) w is = absurd is
+none_begun g now d w is = refl
+
+as_opened : (o : Opening) (which : HeaderWord) (t : Execution) → AreBuilt t →
+    begun_word o 0 which t ≡ opening_word o (Header 0 which)
+as_opened o which [] built = refl
+as_opened o which (e ∷ t) built =
+    none_begun 0 (word o t (Header 0 which)) e.action (begun_word o 0 which t) built.0
+    ∙ as_opened o which t built.1
+
+-- the buffer of group 0 has one lane, for all keys
+pub one_lane : (o : Opening) (t : Execution) → o.rows ≡ [] → AreBuilt t → lanes o 0 t ≡ 1
+one_lane o t none built =
+    as_opened o header.Lanes t built
+    ∙ ap (λ (m : Map). lane_count (length (keys_in m))) none
+
+pub from_zero_on : (o : Opening) (t : Execution) → o.rows ≡ [] → AreBuilt t → cut o 0 0 t ≡ 0
+from_zero_on o t none built =
+    as_opened o (header.Cut 0) t built ∙ ap (λ (m : Map). opening_cut (keys_in m) 0) none
+
+pub has_lane : (o : Opening) (t : Execution) → o.rows ≡ [] → AreBuilt t → (k : ℕ) →
+    HasLane o 0 0 k t
+has_lane o t none built k =
+    let one = one_lane o t none built in
+    let from = from_zero_on o t none built in
+    record { is_lane = omega arith; from = omega arith; end = inl (sym one) }
+
+-- so a link of the lane leads to the first row from a key on, whichever that is
+pub link_of_lane : (o : Opening) (t : Execution) → o.rows ≡ [] → AreBuilt t → (low : ℕ) (m : Map) →
+    link_from (lane_end o 0 0 t) low m ≡ link_from None low m
+link_of_lane o t none built low m =
+    ap (λ (n : ℕ). link_from (cond (1 == n) None (Some (cut o 0 1 t))) low m)
+    (one_lane o t none built)
+
 permitted : (o : Opening) (t : Execution) (hand g : ℕ) → Valid o t → AreBuilt t → IsCaller o hand →
     MayInsertInto hand g t → g ≡ 0
 permitted o t hand g valid built caller may =
@@ -147,6 +192,8 @@ rows_at_first o (e ∷ t) valid built place g k is =
     ⊎_elim
     (λ (z : role o place t ≡ InBuffer g k). rows_at_first o t valid.1 built.1 place g k z)
     (λ (z : IsLinkOf g place k e.action).
-    let may = may_as o t e.by e.action (LinkRow g place z.0 z.1 z.2) z.3 valid.0 in
+    let may =
+    may_as o t e.by e.action (LinkRow g z.lane place z.change z.before z.next) z.is valid.0
+    in
     permitted o t e.by g valid.1 built.1 may.caller may.permission)
     (row_back o t e.by e.action place g k is)

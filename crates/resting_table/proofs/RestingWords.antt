@@ -7,7 +7,7 @@ use native.Mathlib.Decide.{ℕ_discrete}
 use Rattle.map_model.specs.History.{after}
 use Rattle.map_model.specs.Map.{IsRising, Map, first_from, look}
 use Rattle.map_model.proofs.Logging.{rising-after}
-use Rattle.word_layout.specs.declared.headers.HeaderWord.TheVariants.{BufferHead}
+use Rattle.word_layout.specs.declared.headers.HeaderWord.TheVariants.{Head}
 use Rattle.word_layout.specs.declared.layout.Layout.{Layout}
 use Rattle.word_layout.specs.declared.places.Part.{Part}
 use Rattle.word_layout.specs.declared.places.Part.TheVariants as part
@@ -51,7 +51,8 @@ use Rattle.delta_buffer.proofs.RowWalks.{rows_within}
 use Rattle.resting_table.specs.Resting.{LeaveAtRest}
 use Rattle.resting_table.proofs.KeptPairs.{first_of, from_behind, from_zero, kept, kept-length, kept_more}
 use Rattle.resting_table.proofs.KeptPairs.{look_kept, look_middle, pair_if, rising_kept, same_pairs, value_at}
-use Rattle.resting_table.proofs.OneGroup.{rows_at_first}
+use Rattle.resting_table.proofs.OneGroup.{from_zero_on, has_lane, link_of_lane, rows_at_first}
+use Rattle.index_machine.specs.Lanes.{cut}
 
 -- the value at a place, if it has one
 abbrev pub value_of : Opening → Execution → ℕ → Option ℕ
@@ -127,7 +128,8 @@ module _ (l : Layout) (ws : List ℕ) (o : Opening) (t : Execution) (rest : Leav
         removed = is.1;
         state = words.states r.1 has ∙ ap state_word is.3;
         value = ap live_value is.3 ∙ ap (unless is.1) value;
-        link = next_rows o t rest.valid 0 r.0 r.1 at
+        link = next_rows o t rest.valid 0 0 r.0 r.1 at (has_lane o t rest.empty rest.built r.0)
+            ∙ link_of_lane o t rest.empty rest.built (r.0 + 1) (rows 0 t)
             ∙ ap place_of_row
             (ap (λ (m : Map). first_from m (r.0 + 1)) (sym whole)
             ∙ from_behind done r behind up);
@@ -145,14 +147,19 @@ module _ (l : Layout) (ws : List ℕ) (o : Opening) (t : Execution) (rest : Leav
     pub is : pairs ≡ kept (value_of o t) done
 
   -- the head leads to the first row
-  pub reads_none : (next : ℕ) → next ≡ word o t (Header 0 BufferHead) → Reads 0 next []
+  pub reads_none : (next : ℕ) → next ≡ word o t (Header 0 (Head 0)) → Reads 0 next []
   reads_none next is =
       record {
         done = [];
         behind = rows 0 t;
         whole = refl;
         many = refl;
-        here = is ∙ (walkable.head ∙ ap place_of_row (from_zero (rows 0 t)));
+        here = is
+            ∙ (walkable.heads 0 (has_lane o t rest.empty rest.built 0).is_lane
+            ∙ (link_of_lane o t rest.empty rest.built (cut o 0 0 t) (rows 0 t)
+            ∙ (ap (λ (k : ℕ). place_of_row (first_from (rows 0 t) k))
+            (from_zero_on o t rest.empty rest.built)
+            ∙ ap place_of_row (from_zero (rows 0 t)))));
         is = refl;
       }
 
@@ -323,10 +330,10 @@ module _ (l : Layout) (ws : List ℕ) (o : Opening) (t : Execution) (rest : Leav
   -- ---- words at addresses ----
 
   -- the head of the list
-  pub head_is : (address : ℕ) → address ≡ address_of (limits_of l) (Header 0 BufferHead) →
-      slice_index ws address ≡ word o t (Header 0 BufferHead)
+  pub head_is : (address : ℕ) → address ≡ address_of (limits_of l) (Header 0 (Head 0)) →
+      slice_index ws address ≡ word o t (Header 0 (Head 0))
   head_is address at =
-      let most = o.layout.kept.least_groups in named (Header 0 BufferHead) address (omega arith) at
+      let most = o.layout.kept.least_groups in named (Header 0 (Head 0)) address (omega arith, omega arith) at
 
   -- a place that is next is small
   pub next_small : (walked next : ℕ) (pairs : Map) → Reads walked next pairs → next < 2 ^ 28

@@ -1,4 +1,5 @@
--- Words at rest: those that an execution leaves after which nobody holds a version lock.
+-- Words at rest: those that an execution leaves in which nothing was rebuilt, and after which nobody holds a
+-- version lock.
 --
 -- The fact to remember: then each row's words tell its key, whether it has a value, and which.
 use Rattle.std.specs.Prelude.{◌≡◌, ℕ, List, []}
@@ -14,8 +15,8 @@ use Rattle.index_machine.specs.RecordConditions.{HoldsNoLock}
 use Rattle.index_rule.specs.Built.{AreBuilt}
 use Rattle.opened_table.specs.Laying.{StandsFor}
 
--- the words are those that this execution leaves, after which nobody holds a version lock, of an index
--- that was opened empty
+-- the words are those that this execution leaves, in which nothing was rebuilt, and after which nobody holds
+-- a version lock, of an index that was opened empty
 pub record LeaveAtRest (l : Layout) (words : List ℕ) (o : Opening) (t : Execution) : Type 0 where
   pub layout : o.layout ≡ l
   pub empty : opening_map o ≡ []

@@ -117,7 +117,7 @@ inserts_grow m d h = go (is_inserting (after m h) d)
 
 inserts_after : (m : Map) (d : Action) (h : History) → inserts m h ≤ inserts m (history_after d h)
 inserts_after m (Unlock place removed change stored) h = inserts_grow m change h
-inserts_after m (LinkRow group place change before next) h = inserts_grow m change h
+inserts_after m (LinkRow group lane place change before next) h = inserts_grow m change h
 inserts_after m d h = omega arith
 
 pub used_up_stay : UsedUpRowsStaySo

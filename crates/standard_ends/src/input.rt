@@ -16,9 +16,9 @@ pub struct StandardInput<R: Read + Drop> {
 }
 
 impl<R: Read + Drop> Model for StandardInput<R> {
-    ghost use Rattle.standard_ends.specs.Real.{StreamState};
+    ghost use Rattle.standard_ends.specs.Real.{InputState};
 
-    ghost Value = { StreamState };
+    ghost Value = { InputState };
 
     ghost view = { λ s. record { bytes = R.remaining s.reader; faults = s.faults } };
 }

@@ -1,5 +1,6 @@
 pub mod LineLaws
 pub mod TraceLaws
+pub mod KeptLaws
 pub mod TextLaws
 pub mod TranscriptLaws
 pub mod WrittenLaws

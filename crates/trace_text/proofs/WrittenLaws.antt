@@ -1,5 +1,5 @@
 -- Lines that are written of a keyword and numbers are read back.
-use Rattle.std.proofs.Common.{◌≡◌, ◌≢◌, ℕ, ◌+◌, ◌-◌, ◌*◌, ◌/◌, ◌%◌, ◌^◌, ◌<◌, ◌≤◌, List, [], ◌∷◌, ◌++◌, length, codes, refl, sym, ap, subst, inl, inr, ◌∙◌, append_assoc, arith}
+use Rattle.std.proofs.Common.{◌≡◌, ◌≢◌, ℕ, ◌+◌, ◌/◌, ◌%◌, ◌^◌, ◌<◌, ◌≤◌, List, [], ◌∷◌, ◌++◌, length, codes, refl, sym, ap, subst, inl, inr, ◌∙◌, append_assoc, arith}
 use Rattle.std.specs.Fmt.{decimal}
 use Rattle.std.specs.List.{AllByRecursion}
 use Rattle.std.proofs.lemmas.Fmt.{decimal_by_steps, length-decimal-le}
@@ -13,7 +13,7 @@ use Rattle.wire_commands.proofs.Spans.{second_part_has, push_has}
 use Rattle.wire_commands.proofs.NumberLaws.{value_of-append}
 use Rattle.trace_text.specs.declared.lines.Line.TheVariants.{Phase, Caller, Call}
 use Rattle.trace_text.specs.Lines.{IsSkipped, Fits, Says}
-use Rattle.trace_text.specs.Laws.{WritesLine, WrittenIsRead}
+use Rattle.trace_text.specs.Laws.{WrittenIsRead}
 use Rattle.trace_text.proofs.TextLaws.{append-some}
 
 -- both parts have a property

@@ -1,5 +1,6 @@
 pub mod Lines
 pub mod Traces
+pub mod Kept
 pub mod Text
 pub mod Transcripts
 pub mod Laws

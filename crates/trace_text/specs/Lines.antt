@@ -66,3 +66,8 @@ abbrev pub IsLineFor : ℕ → Line → Type 0
 IsLineFor callers (Caller caller) = caller < callers
 IsLineFor callers (Call request) = IsCall request
 IsLineFor callers line = Unit {0}
+
+-- what a line of a trace may say, however many callers there are
+abbrev pub IsLine : Line → Type 0
+IsLine (Call request) = IsCall request
+IsLine line = Unit {0}

@@ -4,12 +4,14 @@
 #![tactic(auto)]
 
 mod appending;
+mod keeping;
 mod laws;
 mod lines;
 mod traces;
 mod transcripts;
 
 pub use appending::{append_number, append_pair, append_reply};
+pub use keeping::{Cursor, Trace};
 pub use laws::{each_text_has_its_lines, no_line_says_two_things, written_lines_are_read};
 pub use lines::{Line, read_trace_line};
 pub use traces::{TraceError, read_trace};

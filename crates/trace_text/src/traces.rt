@@ -1,14 +1,17 @@
 //! A whole trace, which is given as one text.
 //!
-//! Room is taken at once, for as many lines as a text of this length and with these newlines can have.
-ghost use Rattle.std.specs.Prelude.{◌≡◌, ◌≢◌, ◌<◌, ◌≤◌, ℕ, [], ◌∷◌, ◌++◌, IfOk, OnOk, MatchResult, length, slice_index};
-ghost use Rattle.std.specs.List.{AllByRecursion, filter};
+//! Room is taken at once, for as many lines and numbers as a text of this length and with these newlines can have.
+ghost use Rattle.std.specs.Prelude.{◌≡◌, ◌<◌, [], IfOk, MatchResult, length};
+ghost use Rattle.std.specs.List.{AllByRecursion};
 ghost use Rattle.trace_text.specs.Lines.{IsLineFor};
-ghost use Rattle.trace_text.specs.Traces.{CutsLine, is_told, IsTrace, IsCause};
+ghost use Rattle.trace_text.specs.Traces.{CutsLine, IsTrace, IsCause};
 
-use crate::lines::{Line, read_trace_line};
+use crate::keeping::Trace;
+use crate::lines::read_trace_line;
 use std::alloc::{AllocError, Global};
+use std::error::Error;
 use std::fmt;
+use wire_commands::line_len;
 
 /// Why a text is not read as a trace.
 #[derive(Clone, Copy, Debug, PartialEq, Eq)]
@@ -38,13 +41,14 @@ impl fmt::Display for TraceError {
     }
 }
 
+impl Error for TraceError {}
+
 /// Reads a trace for so many callers. Lines that are skipped are counted and left out.
-pub fn read_trace(alloc: Global, text: &[u8], callers: u32) -> Result<Vec<Line>, TraceError>
-    ensures reads { MatchResult result (λ lines. IsTrace callers text.now lines.items)
-        (IsCause callers text.now) }
-    ensures fit { IfOk result (λ lines. AllByRecursion (IsLineFor callers) lines.items) }
+pub fn read_trace(alloc: Global, text: &[u8], callers: u32) -> Result<Trace, TraceError>
+    ensures reads { MatchResult result (IsTrace callers text.now) (IsCause callers text.now) }
+    ensures fit { IfOk result (AllByRecursion (IsLineFor callers)) }
 {
-    let mut lines = Vec::with_capacity(alloc, most_lines(text))?;
+    let mut trace = with_room_for(alloc, text)?;
     let mut rest = text;
     let mut number: u64 = 0;
     while !rest.is_empty() {
@@ -53,27 +57,23 @@ pub fn read_trace(alloc: Global, text: &[u8], callers: u32) -> Result<Vec<Line>,
         let Some(said) = read_trace_line(line, callers) else {
             return Err(TraceError::BadLine { number });
         };
-        keep(&mut lines, said)?;
+        trace.push(said)?;
         rest = more;
     }
-    Ok(lines)
+    Ok(trace)
 }
 
-/// Keeps what a line says, where it says anything.
-fn keep(lines: &mut Vec<Line>, said: Line) -> Result<(), AllocError>
-    ensures { OnOk result (lines.new.items ≡ lines.old.items ++ filter is_told (said ∷ [])) }
+/// A trace with room for the lines of a text.
+///
+/// Each line has a newline, but for the last. None that is kept is shorter than `phase`, and none with a number than
+/// `get 1`; each number takes four bytes and more.
+fn with_room_for(alloc: Global, text: &[u8]) -> Result<Trace, AllocError>
+    ensures { IfOk result (λ trace. trace ≡ []) }
 {
-    match said {
-        Line::Skip => Ok(()),
-        _ => Ok(lines.push(said)?),
-    }
-}
-
-/// How many lines are not skipped, at most: each has a newline, but for the last, and no good one
-/// is shorter than `phase`.
-fn most_lines(text: &[u8]) -> usize {
     let newlines = text.iter().filter(|&&byte| byte == b'\n').count();
-    newlines.min(text.len() / 6) + 1
+    let lines = newlines.min(text.len() / 6) + 1;
+    let numbers = lines.saturating_mul(2).min(text.len() / 4 + 1);
+    Trace::with_room(alloc, lines, numbers)
 }
 
 /// The first line of a text, without its newline, and what follows it.
@@ -87,15 +87,4 @@ fn first_line(text: &[u8]) -> (&[u8], &[u8])
         [_, more @ ..] => (line, more),
         _ => (line, rest),
     }
-}
-
-/// How many bytes stand before the first newline.
-fn line_len(text: &[u8]) -> usize
-    ensures within { result ≤ length text.now }
-    ensures none { (k : ℕ) → k < result → slice_index text.now k ≢ 10 }
-    ensures newline { result < length text.now → slice_index text.now result ≡ 10 }
-{
-    text.iter()
-        .position(|&byte| byte == b'\n')
-        .unwrap_or(text.len())
 }

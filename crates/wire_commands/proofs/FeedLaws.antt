@@ -1,4 +1,4 @@
-use Rattle.std.proofs.Common.{◌≡◌, ◌≢◌, ℕ, ◌+◌, ◌<◌, ◌≤◌, List, [], ◌∷◌, ◌++◌, length, take, set, None, refl, sym, ap, subst, inl, inr, ◌∙◌, arith}
+use Rattle.std.proofs.Common.{◌≡◌, ◌≢◌, ℕ, zero, suc, ◌+◌, ◌-◌, ◌<◌, ◌≤◌, List, [], ◌∷◌, ◌++◌, length, take, set, None, refl, sym, ap, subst, inl, inr, ◌∙◌, arith}
 use Rattle.std.proofs.lemmas.Bool.{cases_lt}
 use Rattle.std.proofs.lemmas.List.{length-take, length-take-le, length_push, take_all, take_more_set, take-append-le}
 use Rattle.wire_commands.specs.declared.request.Request.{Request}
@@ -84,3 +84,22 @@ forgets_byte kept old len byte is full past no_newline =
       waits = λ _. refl;
       grows = λ _ line stands. stands_for_full old line byte all stands;
     }
+
+-- what comes behind a front of a list has the same front as what comes behind the list
+take_behind_take : (n : ℕ) (xs ys : List ℕ) → take n (take n xs ++ ys) ≡ take n (xs ++ ys)
+take_behind_take zero xs ys = refl
+take_behind_take (suc n) [] ys = refl
+take_behind_take (suc n) (x ∷ xs) ys = ap (λ l. x ∷ l) (take_behind_take n xs ys)
+
+-- bytes that are kept, as many as there is room for
+pub stands_for_bytes : (kept line bytes : List ℕ) → StandsFor kept line
+    → StandsFor (take room (kept ++ bytes)) (line ++ bytes)
+stands_for_bytes kept line bytes stands =
+    ap (λ l. take room (l ++ bytes)) stands ∙ take_behind_take room line bytes
+
+-- the front of a list behind another one
+pub take_behind : (n : ℕ) (xs ys : List ℕ) → length xs ≤ n → take n (xs ++ ys) ≡ xs ++ take (n - length xs) ys
+take_behind n [] ys within = ap (λ k. take k ys) (omega arith)
+take_behind zero (x ∷ xs) ys within = absurd (omega arith)
+take_behind (suc n) (x ∷ xs) ys within =
+    ap (λ l. x ∷ l) (take_behind n xs ys (omega arith) ∙ ap (λ k. xs ++ take k ys) (omega arith))

@@ -1,4 +1,4 @@
-use Rattle.std.proofs.Common.{◌≡◌, ◌≢◌, ℕ, ◌<◌, ◌≤◌, List, [], ◌∷◌, length, Option, Some, None, Result, Ok, Err, MatchResult, refl, subst, arith}
+use Rattle.std.proofs.Common.{◌≡◌, ◌≢◌, ℕ, ◌<◌, ◌≤◌, List, [], ◌∷◌, length, Option, Some, None, Result, Ok, Err, MatchResult, refl, ap, subst, arith}
 use Rattle.std.specs.Option.{SomeIff, ok_or, option_zip}
 use Rattle.wire_commands.specs.declared.forms.Form.{Form}
 use Rattle.wire_commands.specs.declared.request.Reason.{Reason}
@@ -6,7 +6,7 @@ use Rattle.wire_commands.specs.declared.request.Reason.TheVariants.{Long, Empty,
 use Rattle.wire_commands.specs.declared.request.Request.{Request}
 use Rattle.wire_commands.specs.declared.request.Request.TheVariants.{Bad}
 use Rattle.wire_commands.specs.Words.{HasWords, BeginsWith}
-use Rattle.wire_commands.specs.Numbers.{IsNumber, value_of}
+use Rattle.wire_commands.specs.Numbers.{BeginsWithNumber, IsNumber, value_of}
 use Rattle.wire_commands.specs.Grammar.{keyword_of, limits_of, longest, IsRequest}
 use Rattle.wire_commands.specs.Arguments.{HasNumbers, LacksNumbers, Completes}
 use Rattle.wire_commands.proofs.WordLaws.{some_words}
@@ -17,6 +17,33 @@ pub has_one_number : (line word : List ℕ) (limit : ℕ) → HasWords line (wor
     → value_of word ≤ limit → HasNumbers line (limit ∷ []) (value_of word ∷ [])
 has_one_number line word limit has is_number within =
     (word ∷ [], has, record { each = (is_number, tt); within = (within, tt); values_are = refl })
+
+-- the line begins with one number and nothing follows it
+pub has_first_number : (line rest : List ℕ) (number limit : ℕ) → BeginsWithNumber line number rest
+    → HasWords rest [] → number ≤ limit → HasNumbers line (limit ∷ []) (number ∷ [])
+has_first_number line rest number limit first none within = (
+  first.word ∷ [],
+  (rest, first.begins, none),
+  record {
+    each = (first.is_number, tt);
+    within = (rw first.value_is within, tt);
+    values_are = ap (λ (value : ℕ). value ∷ []) first.value_is;
+  },
+)
+
+-- the line begins with a number, and what follows is another one
+pub has_first_numbers : (line more rest : List ℕ) (a b m n : ℕ) → BeginsWithNumber line a more
+    → BeginsWithNumber more b rest → HasWords rest [] → a ≤ m → b ≤ n
+    → HasNumbers line (m ∷ n ∷ []) (a ∷ b ∷ [])
+has_first_numbers line more rest a b m n first second none within_a within_b = (
+  first.word ∷ second.word ∷ [],
+  (more, first.begins, (rest, second.begins, none)),
+  record {
+    each = (first.is_number, (second.is_number, tt));
+    within = (rw first.value_is within_a, (rw second.value_is within_b, tt));
+    values_are = λ i. first.value_is i ∷ second.value_is i ∷ [];
+  },
+)
 
 -- one word is no number
 pub lacks_one_number : (line word : List ℕ) (limit : ℕ) → HasWords line (word ∷ [])

@@ -40,6 +40,12 @@ pub second_part_has : {X : Type 0} (P : X → Type 0) (xs ys : List X) → AllBy
 second_part_has P [] ys all = all
 second_part_has P (x ∷ xs) ys all = second_part_has P xs ys all.1
 
+-- what the elements of both parts have, all have
+pub both_parts_have : {X : Type 0} (P : X → Type 0) (xs ys : List X) → AllByRecursion P xs
+    → AllByRecursion P ys → AllByRecursion P (xs ++ ys)
+both_parts_have P [] ys all others = others
+both_parts_have P (x ∷ xs) ys all others = (all.0, both_parts_have P xs ys all.1 others)
+
 -- one more element with a property
 pub push_has : {X : Type 0} (P : X → Type 0) (xs : List X) (x : X) → AllByRecursion P xs → P x
     → AllByRecursion P (xs ++ x ∷ [])

@@ -7,7 +7,7 @@ use Rattle.wire_commands.specs.Grammar.{Reads}
 use Rattle.wire_commands.specs.Stream.{HasNoNewline, Asks, AsksToEnd}
 use Rattle.wire_commands.specs.Feed.{room, ReadsFor, TakesByte, TakesEnd, HasGiven, Feeds}
 use Rattle.wire_commands.specs.Laws.{FeedsGive}
-use Rattle.wire_commands.proofs.Spans.{same_span, second_part_has, push_has}
+use Rattle.wire_commands.proofs.Spans.{same_span, second_part_has, both_parts_have}
 use Rattle.wire_commands.proofs.GrammarLaws.{same_request}
 use Rattle.wire_commands.proofs.Existence.{some_request}
 
@@ -15,19 +15,26 @@ use Rattle.wire_commands.proofs.Existence.{some_request}
 pub asks_nothing : Asks [] [] []
 asks_nothing = (refl, tt)
 
--- one more byte of a line
-pub asks_byte : (bytes : List ℕ) (requests : List Request) (rest : List ℕ) (byte : ℕ)
-    → Asks bytes requests rest → byte ≢ 10 → Asks (bytes ++ byte ∷ []) requests (rest ++ byte ∷ [])
-asks_byte bytes [] rest byte asks no_newline =
-    (ap (λ l. l ++ byte ∷ []) asks.0, push_has (λ b. b ≢ 10) rest byte asks.1 no_newline)
-asks_byte bytes (request ∷ requests) rest byte (line, more, is, whole, reads, asks) no_newline = (
+-- more bytes of a line
+pub asks_bytes : (bytes : List ℕ) (requests : List Request) (rest others : List ℕ)
+    → Asks bytes requests rest → HasNoNewline others
+    → Asks (bytes ++ others) requests (rest ++ others)
+asks_bytes bytes [] rest others asks no_newline =
+    (ap (λ l. l ++ others) asks.0, both_parts_have (λ b. b ≢ 10) rest others asks.1 no_newline)
+asks_bytes bytes (request ∷ requests) rest others (line, more, is, whole, reads, asks) no_newline = (
   line,
-  more ++ byte ∷ [],
-  ap (λ l. l ++ byte ∷ []) is ∙ append_assoc line (10 ∷ more) (byte ∷ []),
+  more ++ others,
+  ap (λ l. l ++ others) is ∙ append_assoc line (10 ∷ more) others,
   whole,
   reads,
-  asks_byte more requests rest byte asks no_newline,
+  asks_bytes more requests rest others asks no_newline,
 )
+
+-- one more byte of a line
+asks_byte : (bytes : List ℕ) (requests : List Request) (rest : List ℕ) (byte : ℕ)
+    → Asks bytes requests rest → byte ≢ 10 → Asks (bytes ++ byte ∷ []) requests (rest ++ byte ∷ [])
+asks_byte bytes requests rest byte asks no_newline =
+    asks_bytes bytes requests rest (byte ∷ []) asks (no_newline, tt)
 
 -- one more newline
 pub asks_newline : (bytes : List ℕ) (requests : List Request) (rest : List ℕ) (request : Request)

@@ -2,7 +2,7 @@ use Rattle.std.specs.Prelude.{◌≡◌, ◌≢◌, ℕ, List, [], ◌∷◌, �
 use Rattle.std.specs.Option.{option_to_list}
 use Rattle.wire_commands.specs.declared.request.Request.{Request}
 use Rattle.wire_commands.specs.Grammar.{Reads}
-use Rattle.wire_commands.specs.Stream.{Asks}
+use Rattle.wire_commands.specs.Stream.{Asks, HasNoNewline}
 
 -- how many bytes are kept of a line: the most that it may have, a carriage return, and one too many
 abbrev pub room : ℕ
@@ -29,6 +29,18 @@ pub record TakesEnd (old : List ℕ) (result : Option Request) (new : List ℕ) 
   pub nothing : old ≡ [] → result ≡ None
   pub reads : old ≢ [] → IsSomeAnd result (ReadsFor old)
   pub begins : new ≡ []
+
+-- the bytes end the line, of which only this was kept: they are its end up to their first newline, and this follows
+pub record EndsLine (kept bytes : List ℕ) (request : Request) (rest : List ℕ) : Type 0 where
+  pub front : List ℕ
+  pub cut : bytes ≡ front ++ 10 ∷ rest
+  pub whole : HasNoNewline front
+  pub reads : (line : List ℕ) → StandsFor kept line → Reads (line ++ front) request
+
+-- the bytes make the line longer
+pub record Lengthens (old bytes new : List ℕ) : Type 0 where
+  pub whole : HasNoNewline bytes
+  pub grows : (line : List ℕ) → StandsFor old line → StandsFor new (line ++ bytes)
 
 -- a feed that keeps this has taken these bytes, and has given these requests
 abbrev pub HasGiven : List ℕ → List ℕ → List Request → Type 0

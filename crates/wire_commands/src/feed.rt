@@ -1,12 +1,15 @@
-//! Requests from bytes that come one by one.
+//! Requests from bytes that come one by one, or some at a time.
 //!
 //! A line may have any length, and at most 82 bytes of it are kept: once so many have come, no
-//! further byte changes what the line reads as.
-ghost use Rattle.std.specs.Prelude.{◌≡◌, []};
-ghost use Rattle.wire_commands.specs.Feed.{TakesByte, TakesEnd, ReadsFor};
+//! further byte changes what the line reads as. A line that comes whole is read where it stands.
+ghost use Rattle.std.specs.Prelude.{◌≡◌, ℕ, List, [], ◌++◌, take, MatchOption};
+ghost use Rattle.wire_commands.specs.Grammar.{Reads};
+ghost use Rattle.wire_commands.specs.Feed.{TakesByte, TakesEnd, ReadsFor, StandsFor, EndsLine};
+ghost use Rattle.wire_commands.specs.Feed.{Lengthens, room};
 
 use crate::reading::read_line;
 use crate::request::Request;
+use crate::words::line_len;
 use std::marker::Model;
 
 /// How many bytes of a line are kept: the most that it may have, a carriage return, and one that
@@ -56,6 +59,45 @@ impl Feed {
             self.len += 1;
         }
         None
+    }
+
+    /// Takes bytes up to the first newline, and gives the request of the line that it ends, and the bytes behind it.
+    /// Where there is no newline, it takes all of them.
+    #[inline]
+    pub fn line<'a>(&mut self, bytes: &'a [u8]) -> Option<(Request, &'a [u8])>
+        ensures { MatchOption result (Lengthens self.old bytes.now self.new)
+            (λ cut. EndsLine self.old bytes.now cut.0 cut.1.now × (self.new ≡ [])) }
+    {
+        let (front, rest) = bytes.split_at(line_len(bytes));
+        match rest {
+            [_, more @ ..] => Some((self.finish_with(front), more)),
+            [] => {
+                self.keep(front);
+                None
+            }
+        }
+    }
+
+    /// Reads the line that these bytes end, and begins a new one.
+    fn finish_with(&mut self, front: &[u8]) -> Request
+        ensures reads { (line : List ℕ) → StandsFor self.old line
+            → Reads (line ++ front.now) result }
+        ensures begins { self.new ≡ [] }
+    {
+        if self.len > 0 {
+            self.keep(front);
+            return self.finish();
+        }
+        read_line(front)
+    }
+
+    /// Keeps these bytes, as many as there is room for.
+    fn keep(&mut self, bytes: &[u8])
+        ensures { self.new ≡ take room (self.old ++ bytes.now) }
+    {
+        let count = bytes.len().min(ROOM - self.len);
+        self.kept[self.len..self.len + count].copy_from_slice(&bytes[..count]);
+        self.len += count;
     }
 
     /// Takes the end of the input, and gives the request of a last line without newline, if a byte

@@ -22,4 +22,4 @@ pub use numbers::{is_number, value_within};
 pub use reading::{read_line, without_return};
 pub use reply::{Reply, write_number};
 pub use request::{Reason, Request, Value};
-pub use words::{first_word, has_no_word, only_word};
+pub use words::{first_word, has_no_word, line_len, only_word};

@@ -1,14 +1,15 @@
 //! The request of one line.
 //!
 //! A bad line has the first reason that holds. So the words of a line are counted before any is
-//! read, and all of them are numbers before any is too great.
+//! read, and all of them are numbers before any is too great. Where the numbers stand as they are
+//! mostly written, they are read in one pass before that.
 ghost use Rattle.std.specs.Prelude.{◌≡◌, ◌≤◌, [], ◌∷◌, length, MatchResult, IfOk};
 ghost use Rattle.wire_commands.specs.Grammar.{Reads, DropsReturn, IsRequest, longest, limits_of};
 ghost use Rattle.wire_commands.specs.Arguments.{HasNumbers, LacksNumbers, Completes};
 ghost use Rattle.wire_commands.specs.declared.request.Request.{Request};
 
 use crate::forms::{Form, form_of};
-use crate::numbers::{is_number, value_within};
+use crate::numbers::{first_number, is_number, value_within};
 use crate::request::{Reason, Request, Value};
 use crate::words::{first_word, has_no_word, only_word, two_words};
 
@@ -101,6 +102,20 @@ fn one_number(line: &[u8], limit: u64) -> Result<u64, Reason>
     ensures { MatchResult result (λ number. HasNumbers line.now (limit ∷ []) (number ∷ []))
         (LacksNumbers line.now (limit ∷ [])) }
 {
+    if let Some((number, rest)) = first_number(line)
+        && number <= limit
+        && has_no_word(rest)
+    {
+        return Ok(number);
+    }
+    by_one_word(line, limit)
+}
+
+/// Reads a rest with one number by its word, or tells why it has none.
+fn by_one_word(line: &[u8], limit: u64) -> Result<u64, Reason>
+    ensures { MatchResult result (λ number. HasNumbers line.now (limit ∷ []) (number ∷ []))
+        (LacksNumbers line.now (limit ∷ [])) }
+{
     let Some(word) = only_word(line) else {
         return Err(Reason::Count);
     };
@@ -112,6 +127,24 @@ fn one_number(line: &[u8], limit: u64) -> Result<u64, Reason>
 
 /// Reads the rest of a line that has two numbers, each at most its limit.
 fn two_numbers(line: &[u8], first_limit: u64, second_limit: u64) -> Result<(u64, u64), Reason>
+    ensures within { IfOk result (λ both. (both.0 ≤ first_limit) × (both.1 ≤ second_limit)) }
+    ensures numbers { MatchResult result
+        (λ both. HasNumbers line.now (first_limit ∷ second_limit ∷ []) (both.0 ∷ both.1 ∷ []))
+        (LacksNumbers line.now (first_limit ∷ second_limit ∷ [])) }
+{
+    if let Some((first, more)) = first_number(line)
+        && let Some((second, rest)) = first_number(more)
+        && first <= first_limit
+        && second <= second_limit
+        && has_no_word(rest)
+    {
+        return Ok((first, second));
+    }
+    by_two_words(line, first_limit, second_limit)
+}
+
+/// Reads a rest with two numbers by its words, or tells why it has none.
+fn by_two_words(line: &[u8], first_limit: u64, second_limit: u64) -> Result<(u64, u64), Reason>
     ensures within { IfOk result (λ both. (both.0 ≤ first_limit) × (both.1 ≤ second_limit)) }
     ensures numbers { MatchResult result
         (λ both. HasNumbers line.now (first_limit ∷ second_limit ∷ []) (both.0 ∷ both.1 ∷ []))

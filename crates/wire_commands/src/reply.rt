@@ -29,6 +29,7 @@ pub enum Reply {
 
 impl Reply {
     /// Writes the reply's line, with its newline, at the front, and tells its length in bytes.
+    #[inline]
     pub fn write(&self, into: &mut [u8; 80]) -> usize
         ensures line { take result into.new ≡ line_of self.now }
         ensures within { result ≤ 80 }
@@ -64,6 +65,7 @@ fn bad_line(reason: Reason) -> &'static [u8]
 }
 
 /// Writes a text at the front, and tells its length.
+#[inline]
 fn write_text(text: &[u8], into: &mut [u8; 80]) -> usize
     requires { length text.now ≤ 80 }
     ensures { Writes into.old into.new text.now result }
@@ -73,6 +75,7 @@ fn write_text(text: &[u8], into: &mut [u8; 80]) -> usize
 
 /// Writes a word, a number in decimal digits and a newline at the front, and tells their length in
 /// bytes. What lies past them stays as it was.
+#[inline]
 pub fn write_number(word: &[u8], number: u64, into: &mut [u8; 80]) -> usize
     requires { length word.now ≤ 39 }
     ensures line { Writes into.old into.new (word.now ++ decimal number ++ codes "\n") result }
@@ -86,6 +89,7 @@ pub fn write_number(word: &[u8], number: u64, into: &mut [u8; 80]) -> usize
 }
 
 /// Writes a text from a place on, and tells where it ends.
+#[inline]
 fn append(text: &[u8], into: &mut [u8; 80], start: usize) -> usize
     requires { start + length text.now ≤ 80 }
     ensures end { result ≡ start + length text.now }

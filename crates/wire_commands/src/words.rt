@@ -1,9 +1,21 @@
-//! The words of a line.
+//! Where a line ends, and its words.
 //!
 //! A word is a longest run of bytes other than space and tab. Words are cut off the front, and
 //! nothing is copied.
-ghost use Rattle.std.specs.Prelude.{ℕ, [], ◌∷◌, ◌<◌, ◌≤◌, ◌↔◌, length, slice_index, IsTrue, MatchOption};
-ghost use Rattle.wire_commands.specs.Words.{IsBlank, HasWords, HasOtherCount, BeginsWith};
+ghost use Rattle.std.specs.Prelude.{◌≡◌, ◌≢◌, ℕ, [], ◌∷◌, ◌<◌, ◌≤◌, ◌↔◌, length, slice_index, IsTrue, MatchOption};
+ghost use Rattle.wire_commands.specs.Words.{IsBlank, EndsWord, HasWords, HasOtherCount, BeginsWith};
+
+use memchr::memchr;
+
+/// How many bytes stand before the first newline.
+#[inline]
+pub fn line_len(text: &[u8]) -> usize
+    ensures within { result ≤ length text.now }
+    ensures none { (k : ℕ) → k < result → slice_index text.now k ≢ 10 }
+    ensures newline { result < length text.now → slice_index text.now result ≡ 10 }
+{
+    memchr(b'\n', text).unwrap_or(text.len())
+}
 
 /// Whether the byte stands between words.
 #[inline]
@@ -13,8 +25,20 @@ fn is_blank(byte: u8) -> bool
     byte == b' ' || byte == b'\t'
 }
 
+/// Whether what stands behind a word ends it.
+#[inline]
+pub(crate) fn ends_word(rest: &[u8]) -> bool
+    ensures { IsTrue result ↔ EndsWord rest.now }
+{
+    match rest {
+        [byte, ..] => is_blank(*byte),
+        [] => true,
+    }
+}
+
 /// How many blanks stand at the front.
-fn blanks_len(line: &[u8]) -> usize
+#[inline]
+pub(crate) fn blanks_len(line: &[u8]) -> usize
     ensures within { result ≤ length line.now }
     ensures blank { (k : ℕ) → k < result → IsBlank (slice_index line.now k) }
     ensures first { result < length line.now → ¬ (IsBlank (slice_index line.now result)) }

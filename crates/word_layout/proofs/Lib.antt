@@ -1,4 +1,6 @@
 mod Rules
+pub mod KeySpace
+mod KeptBounds
 mod NamedAddresses
 pub mod WordNames
 pub mod RowPlaces

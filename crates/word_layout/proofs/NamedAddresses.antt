@@ -1,11 +1,12 @@
 -- Each address of the table is that of a word, whichever part of the table it is in.
-use Rattle.std.proofs.Common.{◌≡◌, ⊎_elim, inl, inr, ℕ, ◌+◌, ◌-◌, ◌*◌, ◌/◌, ◌%◌, ◌<◌, ◌≤◌, refl, arith, zero, suc}
-use Rattle.std.proofs.lemmas.Bool.{cases_lt}
+use Rattle.std.proofs.Common.{◌≡◌, ◌∙◌, ⊎_elim, inl, inr, ℕ, ◌+◌, ◌-◌, ◌*◌, ◌/◌, ◌%◌, ◌<◌, ◌≤◌, refl, arith, zero, suc}
+use Rattle.std.proofs.lemmas.Bool.{cases_lt, lt-ltb, le-ltb}
 use Rattle.std.proofs.lemmas.Nat.{div-add-mod', div_below, mod_below}
 use Rattle.word_layout.specs.declared.limits.Limits.{Limits}
 use Rattle.word_layout.specs.Limits.{group_words_of, word_count}
 use Rattle.word_layout.specs.Addresses.{first_slot_word, first_group_word, first_row_word}
-use Rattle.word_layout.specs.Headers.{number_of, header_word}
+use Rattle.word_layout.specs.Headers.{number_of, header_word, header_words, lane_word}
+use Rattle.word_layout.specs.Headers.{most_lanes, IsHeaderWord}
 use Rattle.word_layout.specs.Places.{IsArrayPlace, part_at, part_offset}
 use Rattle.word_layout.specs.Words.{Word, FreeHead, Root, Epoch, SlotPivot, SlotGroup, Header, PlaceWord, IsWord, address_of}
 
@@ -43,8 +44,18 @@ in_root l k a h is =
 
 -- ---- the groups ----
 
+-- the head or the cut with a number
+lane_with : (n : ℕ) → number_of (lane_word n) ≡ 8 + n
+lane_with n =
+    ⊎_elim (λ head. rw (lt-ltb n most_lanes head) refl)
+    (λ cut. rw (le-ltb n most_lanes cut) (omega arith))
+    (cases_lt n most_lanes)
+
+behind_eight : (n : ℕ) → 8 + n ≡ suc (suc (suc (suc (suc (suc (suc (suc n)))))))
+behind_eight n = omega arith
+
 -- the header word with a number
-header_with : (number : ℕ) → number < 8 → number_of (header_word number) ≡ number
+header_with : (number : ℕ) → number < header_words → number_of (header_word number) ≡ number
 header_with zero h = refl
 header_with (suc zero) h = refl
 header_with (suc (suc zero)) h = refl
@@ -53,7 +64,25 @@ header_with (suc (suc (suc (suc zero)))) h = refl
 header_with (suc (suc (suc (suc (suc zero))))) h = refl
 header_with (suc (suc (suc (suc (suc (suc zero)))))) h = refl
 header_with (suc (suc (suc (suc (suc (suc (suc zero))))))) h = refl
-header_with (suc (suc (suc (suc (suc (suc (suc (suc _)))))))) h = absurd (omega arith)
+header_with (suc (suc (suc (suc (suc (suc (suc (suc n)))))))) h = lane_with n ∙ behind_eight n
+
+-- it is one that a header has
+lane_is : (n : ℕ) → n + 8 < header_words → IsHeaderWord (lane_word n)
+lane_is n h =
+    ⊎_elim (λ head. rw (lt-ltb n most_lanes head) head)
+    (λ cut. rw (le-ltb n most_lanes cut) (omega arith))
+    (cases_lt n most_lanes)
+
+is_header_word : (number : ℕ) → number < header_words → IsHeaderWord (header_word number)
+is_header_word zero h = tt
+is_header_word (suc zero) h = tt
+is_header_word (suc (suc zero)) h = tt
+is_header_word (suc (suc (suc zero))) h = tt
+is_header_word (suc (suc (suc (suc zero)))) h = tt
+is_header_word (suc (suc (suc (suc (suc zero))))) h = tt
+is_header_word (suc (suc (suc (suc (suc (suc zero)))))) h = tt
+is_header_word (suc (suc (suc (suc (suc (suc (suc zero))))))) h = tt
+is_header_word (suc (suc (suc (suc (suc (suc (suc (suc n)))))))) h = lane_is n (omega arith)
 
 -- the part that stands so far behind its place
 part_with : (offset : ℕ) → offset < 4 → part_offset (part_at offset) ≡ offset
@@ -64,17 +93,17 @@ part_with (suc (suc (suc zero))) h = refl
 part_with (suc (suc (suc (suc _)))) h = absurd (omega arith)
 
 -- the word so far behind the start of a group's header
-in_header : (l : Limits) (group r a : ℕ) → group < l.groups → r < 8 →
+in_header : (l : Limits) (group r a : ℕ) → group < l.groups → r < header_words →
     first_group_word l + (group * group_words_of l + r) ≡ a → NamedAt l a
 in_header l group r a is_group h is =
-    (Header group (header_word r), is_group, omega (arith, header_with r h))
+    (Header group (header_word r), (is_group, is_header_word r h), omega (arith, header_with r h))
 
 -- the word so far behind the start of a group's array
 in_array : (l : Limits) (group r a : ℕ) → group < l.groups → r < 4 * l.group_size →
-    first_group_word l + (group * group_words_of l + 8 + r) ≡ a → NamedAt l a
+    first_group_word l + (group * group_words_of l + header_words + r) ≡ a → NamedAt l a
 in_array l group r a is_group h is =
     let offset = part_with (r % 4) (omega arith) in
-    let place : ℕ = first_group_word l + group * group_words_of l + 8 + 4 * (r / 4) in
+    let place : ℕ = first_group_word l + group * group_words_of l + header_words + 4 * (r / 4) in
     let array : IsArrayPlace l group place = (omega arith, omega arith, omega arith) in
     (PlaceWord place (part_at (r % 4)), inr (group, is_group, array), omega arith)
 
@@ -88,8 +117,8 @@ in_groups l k a h is =
     let below : rest < width = mod_below k width (omega arith) in
     let group : k / width < l.groups = div_below k width l.groups (omega arith) h in
     ⊎_elim (λ header. in_header l (k / width) rest a group header (omega arith))
-    (λ array. in_array l (k / width) (rest - 8) a group (omega arith) (omega arith))
-    (cases_lt rest 8)
+    (λ array. in_array l (k / width) (rest - header_words) a group (omega arith) (omega arith))
+    (cases_lt rest header_words)
 
 -- ---- the record rows ----
 

@@ -7,11 +7,11 @@ use Rattle.word_layout.specs.declared.limits.Limits.{Limits}
 use Rattle.word_layout.specs.Limits.{group_words_of, word_count}
 use Rattle.word_layout.specs.Addresses.{first_slot_word, first_group_word, first_row_word}
 use Rattle.word_layout.specs.declared.headers.HeaderWord.{HeaderWord}
-use Rattle.word_layout.specs.declared.headers.HeaderWord.TheVariants.{Pivot, Size, LineError, BufferHead, Phase, Next, FirstSpare, SecondSpare}
+use Rattle.word_layout.specs.declared.headers.HeaderWord.TheVariants.{Pivot, Size, LineError, Lanes, Phase, Next, FirstSpare, SecondSpare, Head, Cut}
 use Rattle.word_layout.specs.declared.places.Part.{Part}
 use Rattle.word_layout.specs.declared.places.Part.TheVariants.{Key, Value, State, Link}
 use Rattle.word_layout.specs.Addresses.{array_address}
-use Rattle.word_layout.specs.Headers.{number_of, header_word}
+use Rattle.word_layout.specs.Headers.{number_of, header_word, header_words, most_lanes, IsHeaderWord}
 use Rattle.word_layout.specs.Places.{IsArrayPlace, IsRow, IsWordOf, part_at, part_of, part_offset, part_address}
 use Rattle.word_layout.specs.WordAt.{head_at, slot_at, group_at, row_at, word_at}
 use Rattle.word_layout.specs.Words.{Word, FreeHead, Root, Epoch, SlotPivot, SlotGroup, Header, PlaceWord, IsWord, address_of, StandApart, StoresByName}
@@ -102,32 +102,51 @@ slot_at-group width side i h =
     let word : (2 * i + 1) % 2 ≡ 1 = omega arith in
     rw (quotient, rest, slot, word)
 
-pub header_word-number_of : (word : HeaderWord) → header_word (number_of word) ≡ word
-header_word-number_of Pivot = refl
-header_word-number_of Size = refl
-header_word-number_of LineError = refl
-header_word-number_of BufferHead = refl
-header_word-number_of Phase = refl
-header_word-number_of Next = refl
-header_word-number_of FirstSpare = refl
-header_word-number_of SecondSpare = refl
+head_at_number : (lane : ℕ) → lane < most_lanes → header_word (8 + lane) ≡ Head lane
+head_at_number lane h =
+    let behind : 8 + lane ≡ suc (suc (suc (suc (suc (suc (suc (suc lane))))))) = omega arith in
+    ap header_word behind ∙ first_of_two HeaderWord lane most_lanes _ _ h
 
-number_of-below : (word : HeaderWord) → number_of word < 8
-number_of-below Pivot = omega arith
-number_of-below Size = omega arith
-number_of-below LineError = omega arith
-number_of-below BufferHead = omega arith
-number_of-below Phase = omega arith
-number_of-below Next = omega arith
-number_of-below FirstSpare = omega arith
-number_of-below SecondSpare = omega arith
+cut_at_number : (lane : ℕ) → header_word (16 + lane) ≡ Cut lane
+cut_at_number lane =
+    let behind : 16 + lane ≡ suc (suc (suc (suc (suc (suc (suc (suc (8 + lane)))))))) = omega arith in
+    let same : 8 + lane - most_lanes ≡ lane = omega arith in
+    ap header_word behind
+    ∙ second_of_two HeaderWord (8 + lane) most_lanes _ _ (omega arith)
+    ∙ ap Cut same
 
-group_at-header : (start width group : ℕ) (word : HeaderWord) → number_of word < width →
+pub header_word-number_of : (word : HeaderWord) → IsHeaderWord word →
+    header_word (number_of word) ≡ word
+header_word-number_of Pivot h = refl
+header_word-number_of Size h = refl
+header_word-number_of LineError h = refl
+header_word-number_of Lanes h = refl
+header_word-number_of Phase h = refl
+header_word-number_of Next h = refl
+header_word-number_of FirstSpare h = refl
+header_word-number_of SecondSpare h = refl
+header_word-number_of (Head lane) h = head_at_number lane h
+header_word-number_of (Cut lane) h = cut_at_number lane
+
+number_of-below : (word : HeaderWord) → IsHeaderWord word → number_of word < header_words
+number_of-below Pivot h = omega arith
+number_of-below Size h = omega arith
+number_of-below LineError h = omega arith
+number_of-below Lanes h = omega arith
+number_of-below Phase h = omega arith
+number_of-below Next h = omega arith
+number_of-below FirstSpare h = omega arith
+number_of-below SecondSpare h = omega arith
+number_of-below (Head lane) h = omega arith
+number_of-below (Cut lane) h = omega arith
+
+group_at-header : (start width group : ℕ) (word : HeaderWord) → IsHeaderWord word →
+    number_of word < width →
     group_at start width (group * width + number_of word) ≡ Header group word
-group_at-header start width group word h =
+group_at-header start width group word known h =
     rw (div-mul-add group width (number_of word) h, mod-mul-add group width (number_of word) h)
-    (first_of_two Word (number_of word) 8 _ _ (number_of-below word)
-    ∙ ap (Header group) (header_word-number_of word))
+    (first_of_two Word (number_of word) header_words _ _ (number_of-below word known)
+    ∙ ap (Header group) (header_word-number_of word known))
 
 -- a place that is whole words of four behind a start, and a part of it
 same_place : (start k offset : ℕ) → k % 4 ≡ 0 → offset < 4 →
@@ -148,18 +167,24 @@ place_part start k part whole =
     )
 
 group_at-array : (start width group k : ℕ) (part : Part) → k % 4 ≡ 0 →
-    8 + (k + part_offset part) < width →
-    group_at start width (group * width + (8 + (k + part_offset part)))
-    ≡ PlaceWord (start + group * width + (8 + k)) part
+    header_words + (k + part_offset part) < width →
+    group_at start width (group * width + (header_words + (k + part_offset part)))
+    ≡ PlaceWord (start + group * width + (header_words + k)) part
 group_at-array start width group k part whole h =
     let behind : ℕ = k + part_offset part in
-    let same : 8 + behind - 8 ≡ behind = omega arith in
+    let same : header_words + behind - header_words ≡ behind = omega arith in
     let from : ℕ = start + group * width in
-    let moved : from + (8 + 4 * (behind / 4)) ≡ from + 8 + 4 * (behind / 4) = omega arith in
-    let back : from + 8 + k ≡ from + (8 + k) = omega arith in
-    rw (div-mul-add group width (8 + behind) h, mod-mul-add group width (8 + behind) h)
-    (second_of_two Word (8 + behind) 8 _ _ (omega arith)
-    ∙ rw (same, moved) (place_part (from + 8) k part whole ∙ ap (λ (p : ℕ). PlaceWord p part) back))
+    let moved : from + (header_words + 4 * (behind / 4)) ≡ from + header_words + 4 * (behind / 4) =
+    omega arith
+    in
+    let back : from + header_words + k ≡ from + (header_words + k) = omega arith in
+    rw (
+      div-mul-add group width (header_words + behind) h,
+      mod-mul-add group width (header_words + behind) h,
+    )
+    (second_of_two Word (header_words + behind) header_words _ _ (omega arith)
+    ∙ rw (same, moved)
+    (place_part (from + header_words) k part whole ∙ ap (λ (p : ℕ). PlaceWord p part) back))
 
 -- ---- the laws ----
 
@@ -180,17 +205,17 @@ at_row l place part row =
 pub array_inside : (l : Limits) (group place offset : ℕ) → group < l.groups →
     IsArrayPlace l group place → offset < 4 →
     let k = place - array_address l group 0 in
-    (8 + (k + offset) < group_words_of l)
-    × (group * group_words_of l + (8 + (k + offset)) < l.groups * group_words_of l)
-    × (place ≡ first_group_word l + group * group_words_of l + (8 + k))
+    (header_words + (k + offset) < group_words_of l)
+    × (group * group_words_of l + (header_words + (k + offset)) < l.groups * group_words_of l)
+    × (place ≡ first_group_word l + group * group_words_of l + (header_words + k))
 array_inside l group place offset known array below =
     let k = place - array_address l group 0 in
     let low = array.0 in
     let high = array.1 in
     let whole = array.2 in
-    let fits : 8 + (k + offset) < group_words_of l = omega arith in (
+    let fits : header_words + (k + offset) < group_words_of l = omega arith in (
       fits,
-      omega (arith, mul-add-lt group (group_words_of l) (8 + (k + offset)) l.groups known fits),
+      omega (arith, mul-add-lt group (group_words_of l) (header_words + (k + offset)) l.groups known fits),
       omega arith,
     )
 
@@ -201,7 +226,7 @@ at_array l group place part known array =
     let k = place - array_address l group 0 in
     let offset = part_offset part in
     let inside = array_inside l group place offset known array (part_offset-below part) in
-    let behind : ℕ = group * width + (8 + (k + part_offset part)) in
+    let behind : ℕ = group * width + (header_words + (k + part_offset part)) in
     let is = inside.2 in
     let same : place + part_offset part ≡ first_group_word l + behind = omega arith in
     ap (word_at l) same
@@ -240,11 +265,11 @@ word_at-address_of l (Header group word) h =
     let same : address_of l (Header group word) ≡ first_group_word l + (group * width + i) =
     omega arith
     in
-    let fits : i < width = omega (arith, number_of-below word) in
-    let inside = mul-add-lt group width i l.groups h fits in
+    let fits : i < width = omega (arith, number_of-below word h.1) in
+    let inside = mul-add-lt group width i l.groups h.0 fits in
     ap (word_at l) same
     ∙ in_groups l (group * width + i) (omega (arith, inside))
-    ∙ group_at-header (first_group_word l) width group word fits
+    ∙ group_at-header (first_group_word l) width group word h.1 fits
 word_at-address_of l (PlaceWord place part) h =
     ⊎_elim (λ row. at_row l place part row)
     (λ array. at_array l array.0 place part array.1 array.2)
@@ -266,8 +291,8 @@ address_of-within l (SlotGroup side i) h =
     omega (arith, mul-add-lt side (2 * l.slots) (2 * i + 1) 2 h.0 (omega arith))
 address_of-within l (Header group word) h =
     let i = number_of word in
-    let fits : i < group_words_of l = omega (arith, number_of-below word) in
-    omega (arith, mul-add-lt group (group_words_of l) i l.groups h fits)
+    let fits : i < group_words_of l = omega (arith, number_of-below word h.1) in
+    omega (arith, mul-add-lt group (group_words_of l) i l.groups h.0 fits)
 address_of-within l (PlaceWord place part) h =
     let below = part_offset-below part in
     ⊎_elim (λ row. row_within l place (part_offset part) row below)

@@ -1,6 +1,7 @@
 -- Where each part of the table begins, and the address of each of its words.
 use Rattle.std.specs.Prelude.{ℕ, ◌+◌, ◌*◌}
 use Rattle.word_layout.specs.declared.limits.Limits.{Limits}
+use Rattle.word_layout.specs.Headers.{header_words}
 use Rattle.word_layout.specs.Limits.{group_words_of}
 
 -- ---- where each part begins ----
@@ -33,7 +34,7 @@ header_address l group i = first_group_word l + group * group_words_of l + i
 
 -- a place of a group's array
 abbrev pub array_address : Limits → ℕ → ℕ → ℕ
-array_address l group i = first_group_word l + group * group_words_of l + 8 + 4 * i
+array_address l group i = first_group_word l + group * group_words_of l + header_words + 4 * i
 
 -- the place of a record row
 abbrev pub row_address : Limits → ℕ → ℕ

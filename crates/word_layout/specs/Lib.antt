@@ -1,7 +1,9 @@
+pub mod Headers
 pub mod Limits
+pub mod Parts
+pub mod BoundArrays
 pub mod Addresses
 pub mod Layout
-pub mod Headers
 pub mod Places
 pub mod Root
 pub mod Words

@@ -1,12 +1,13 @@
 -- How many words a table has, and the rules that its sizes must keep.
 use Rattle.std.specs.Prelude.{◌≡◌, ℕ, ◌+◌, ◌-◌, ◌*◌, ◌<◌, ◌≤◌, Bool, true, false, ◌&&◌, nat_le, List, [], ◌∷◌, slice_index_or}
 use Rattle.word_layout.specs.declared.limits.Limits.{Limits}
+use Rattle.word_layout.specs.Headers.{header_words}
 
 -- ---- how many words there are ----
 
 -- the words of one group row: its header, and four words for each place of its array
 abbrev pub group_words_of : Limits → ℕ
-group_words_of l = 8 + 4 * l.group_size
+group_words_of l = header_words + 4 * l.group_size
 
 -- the words of the table: two heads, the epochs, two sides of the root, the groups, and the rows
 abbrev pub word_count : Limits → ℕ

@@ -13,4 +13,4 @@ word_of_phase (Opened first) = 4 * first + 2
 abbrev pub IsWritablePhase : Phase → Type 0
 IsWritablePhase Open = Unit {0}
 IsWritablePhase Frozen = Unit {0}
-IsWritablePhase (Opened first) = first < 65536
+IsWritablePhase (Opened first) = first < 1048576

@@ -3,7 +3,7 @@ use Rattle.std.specs.Prelude.{ℕ, zero, suc, ◌+◌, ◌-◌, ◌*◌, ◌/◌
 use Rattle.word_layout.specs.declared.limits.Limits.{Limits}
 use Rattle.word_layout.specs.Limits.{group_words_of}
 use Rattle.word_layout.specs.Addresses.{first_slot_word, first_group_word, first_row_word}
-use Rattle.word_layout.specs.Headers.{header_word}
+use Rattle.word_layout.specs.Headers.{header_word, header_words}
 use Rattle.word_layout.specs.Places.{part_at}
 use Rattle.word_layout.specs.Words.{Word, FreeHead, Root, Epoch, SlotPivot, SlotGroup, Header, PlaceWord}
 
@@ -25,8 +25,9 @@ slot_at width k = slot_word (k / width) (k % width / 2) (k % width % 2)
 -- the word so far behind the start of a group, which begins at this address
 abbrev pub in_group : ℕ → ℕ → ℕ → Word
 in_group group from r =
-    if nat_lt r 8 then Header group (header_word r)
-    else PlaceWord (from + (8 + 4 * ((r - 8) / 4))) (part_at ((r - 8) % 4))
+    if nat_lt r header_words then Header group (header_word r)
+    else PlaceWord (from + (header_words + 4 * ((r - header_words) / 4)))
+    (part_at ((r - header_words) % 4))
 
 -- the word so far behind the start of the groups, each of which has so many words
 abbrev pub group_at : ℕ → ℕ → ℕ → Word

@@ -5,7 +5,7 @@ use Rattle.word_layout.specs.declared.headers.HeaderWord.{HeaderWord}
 use Rattle.word_layout.specs.declared.places.Part.{Part}
 use Rattle.word_layout.specs.Limits.{word_count}
 use Rattle.word_layout.specs.Addresses.{epoch_address, slot_address, header_address}
-use Rattle.word_layout.specs.Headers.{number_of, same_header_word}
+use Rattle.word_layout.specs.Headers.{number_of, same_header_word, IsHeaderWord}
 use Rattle.word_layout.specs.Places.{IsPlace, part_address, same_part}
 
 -- ---- words by name ----
@@ -28,7 +28,7 @@ IsWord l Root = Unit {0}
 IsWord l (Epoch caller) = caller < l.callers
 IsWord l (SlotPivot side i) = (side < 2) × (i < l.slots)
 IsWord l (SlotGroup side i) = (side < 2) × (i < l.slots)
-IsWord l (Header group _) = group < l.groups
+IsWord l (Header group word) = (group < l.groups) × IsHeaderWord word
 IsWord l (PlaceWord place _) = IsPlace l place
 
 -- the address of a word

@@ -1,6 +1,6 @@
 //! The words of a group's header, which stand before its array.
 ghost use Rattle.std.specs.Prelude.{◌≡◌};
-ghost use Rattle.word_layout.specs.Headers.{number_of};
+ghost use Rattle.word_layout.specs.Headers.{number_of, IsHeaderWord};
 
 /// What a word of a group's header holds.
 #[derive(Clone, Copy, Debug, PartialEq, Eq)]
@@ -11,8 +11,8 @@ pub enum HeaderWord {
     Size,
     /// The greatest error of the line through the array's keys.
     LineError,
-    /// The place of the first row of the delta buffer, or 0.
-    BufferHead,
+    /// How many lanes the delta buffer has: 1 to 8 in a group that is in use.
+    Lanes,
     /// A [`Phase`](crate::Phase).
     Phase,
     /// The number of the next group plus 1, or 0 behind the last.
@@ -21,6 +21,10 @@ pub enum HeaderWord {
     FirstSpare,
     /// Not in use, and 0.
     SecondSpare,
+    /// The place of the first row of a lane of the delta buffer, or 0.
+    Head { lane: u32 },
+    /// The least key of a lane, or 0 where there is no such lane.
+    Cut { lane: u32 },
 }
 
 impl HeaderWord {
@@ -28,17 +32,20 @@ impl HeaderWord {
     /// counts them.
     #[inline]
     pub fn number(self) -> u32
+        requires { IsHeaderWord self }
         ensures { result ≡ number_of self }
     {
         match self {
             HeaderWord::Pivot => 0,
             HeaderWord::Size => 1,
             HeaderWord::LineError => 2,
-            HeaderWord::BufferHead => 3,
+            HeaderWord::Lanes => 3,
             HeaderWord::Phase => 4,
             HeaderWord::Next => 5,
             HeaderWord::FirstSpare => 6,
             HeaderWord::SecondSpare => 7,
+            HeaderWord::Head { lane } => 8 + lane,
+            HeaderWord::Cut { lane } => 16 + lane,
         }
     }
 }

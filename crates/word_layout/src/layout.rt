@@ -7,7 +7,8 @@ ghost use Rattle.word_layout.specs.Limits.{KeepsRules, group_words_of, word_coun
 ghost use Rattle.word_layout.specs.Addresses.{first_group_word, first_row_word};
 ghost use Rattle.word_layout.specs.Addresses.{epoch_address, slot_address, header_address};
 ghost use Rattle.word_layout.specs.Addresses.{array_address, row_address};
-ghost use Rattle.word_layout.specs.Headers.{header_word};
+ghost use Rattle.word_layout.specs.Headers.{header_word, header_words, most_lanes};
+ghost use Rattle.word_layout.specs.declared.headers.HeaderWord.TheVariants.{Head, Cut};
 ghost use Rattle.word_layout.specs.Places.{IsArrayPlace, IsRow};
 ghost use Rattle.word_layout.specs.Words.{StandApart, StoresByName, address_of};
 ghost use Rattle.word_layout.specs.Words.{FreeHead, Root, Epoch, SlotPivot, SlotGroup, Header};
@@ -34,7 +35,7 @@ impl Layout {
         requires { KeepsRules limits }
         ensures { limits_of result ≡ limits }
     {
-        let group_words = 8 + 4 * limits.group_size;
+        let group_words = 24 + 4 * limits.group_size;
         let groups_from = 2 + limits.callers + 4 * limits.slots;
         let rows_from = groups_from + limits.groups * group_words;
         Layout {
@@ -117,15 +118,35 @@ impl Layout {
         self.slot(side, i) + 1
     }
 
-    /// A word of a group's header, by its [number](crate::HeaderWord::number) from 0 to 7.
+    /// A word of a group's header, by its [number](crate::HeaderWord::number) from 0 to 23.
     #[inline]
     pub fn header(&self, group: u32, i: u32) -> u32
         requires is_group { group < (limits_of self.now).groups }
-        requires is_header_word { i < 8 }
+        requires is_header_word { i < header_words }
         ensures address { result ≡ header_address (limits_of self.now) group i }
         ensures named { result ≡ address_of (limits_of self.now) (Header group (header_word i)) }
     {
         self.group_from(group) + i
+    }
+
+    /// The head of a lane of a group's buffer, which names the lane's first row. Lanes count from 0.
+    #[inline]
+    pub fn lane_head(&self, group: u32, lane: u32) -> u32
+        requires is_group { group < (limits_of self.now).groups }
+        requires is_lane { lane < most_lanes }
+        ensures named { result ≡ address_of (limits_of self.now) (Header group (Head lane)) }
+    {
+        self.group_from(group) + 8 + lane
+    }
+
+    /// The cut of a lane of a group's buffer, which is the lane's least key.
+    #[inline]
+    pub fn lane_cut(&self, group: u32, lane: u32) -> u32
+        requires is_group { group < (limits_of self.now).groups }
+        requires is_lane { lane < most_lanes }
+        ensures named { result ≡ address_of (limits_of self.now) (Header group (Cut lane)) }
+    {
+        self.group_from(group) + 16 + lane
     }
 
     /// A place of a group's array, which is the address of its key word.
@@ -136,7 +157,7 @@ impl Layout {
         ensures address { result ≡ array_address (limits_of self.now) group i }
         ensures is_place { IsArrayPlace (limits_of self.now) group result }
     {
-        self.group_from(group) + 8 + 4 * i
+        self.group_from(group) + 24 + 4 * i
     }
 
     /// The place of a record row, which is the address of its key word.

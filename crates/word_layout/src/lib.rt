@@ -7,6 +7,7 @@
 mod headers;
 mod layout;
 mod limits;
+mod parts;
 mod phase;
 mod places;
 mod state;
@@ -14,6 +15,7 @@ mod state;
 pub use headers::HeaderWord;
 pub use layout::Layout;
 pub use limits::{BadLimit, Limits};
+pub use parts::{BadBound, Parts};
 pub use phase::Phase;
 pub use places::{Part, link_word, state_word, value_word};
 pub use state::{

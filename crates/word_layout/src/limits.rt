@@ -49,7 +49,7 @@ impl Error for BadLimit {}
 impl Limits {
     ghost use Rattle.word_layout.specs.Layout.{limits_of};
 
-    /// The limits that an index has where none are named. Their table has 527,366 words.
+    /// The limits that an index has where none are named. Their table has 531,462 words.
     pub fn standard() -> Limits
         ensures kept { KeepsRules result }
         ensures value { result ≡ record {
@@ -120,7 +120,7 @@ impl Limits {
     fn word_count(&self) -> u128
         ensures { result ≡ word_count self.now }
     {
-        let group_words = 8 + 4 * u128::from(self.group_size);
+        let group_words = 24 + 4 * u128::from(self.group_size);
         2 + u128::from(self.callers)
             + 4 * u128::from(self.slots)
             + u128::from(self.groups) * group_words

@@ -41,7 +41,7 @@ impl Phase {
         match word % 4 {
             0 if upper == 0 => Some(Phase::Open),
             1 if upper == 0 => Some(Phase::Frozen),
-            2 if upper < 65536 => Some(Phase::Opened {
+            2 if upper < 1048576 => Some(Phase::Opened {
                 first: upper as u32,
             }),
             _ => None,

@@ -32,9 +32,9 @@ abbrev pub four_group_layout : Layout
 four_group_layout =
     record {
       limits = four_groups;
-      group_words = 40;
+      group_words = 56;
       groups_from = 7;
-      rows_from = 167;
+      rows_from = 231;
       kept = record {
         least_callers = omega arith;
         most_callers = omega arith;
@@ -78,11 +78,26 @@ frozen_0 = event 1 (Freeze 0) ∷ []
 abbrev pub step_1 : Execution
 step_1 = event 1 (StoreHeader 1 header.Next 3) ∷ frozen_0
 
+abbrev pub lanes_1 : Execution
+lanes_1 = event 1 (StoreHeader 1 header.Lanes 2) ∷ step_1
+
+abbrev pub cuts_1 : Execution
+cuts_1 = event 1 (StoreHeader 1 (header.Cut 1) 3) ∷ lanes_1
+
 abbrev pub step_2 : Execution
-step_2 = event 1 (NewGroup 1 0 4 1) ∷ step_1
+step_2 = event 1 (NewGroup 1 0 4 1) ∷ cuts_1
+
+abbrev pub lanes_2 : Execution
+lanes_2 = event 1 (StoreHeader 2 header.Lanes 2) ∷ step_2
+
+abbrev pub first_cut_2 : Execution
+first_cut_2 = event 1 (StoreHeader 2 (header.Cut 0) 5) ∷ lanes_2
+
+abbrev pub cuts_2 : Execution
+cuts_2 = event 1 (StoreHeader 2 (header.Cut 1) 9) ∷ first_cut_2
 
 abbrev pub step_3 : Execution
-step_3 = event 1 (NewGroup 2 5 greatest_key 1) ∷ step_2
+step_3 = event 1 (NewGroup 2 5 greatest_key 1) ∷ cuts_2
 
 abbrev pub step_4 : Execution
 step_4 = event 1 (StoreOpened 0 1) ∷ step_3
@@ -96,8 +111,11 @@ frozen_1 = event 1 (Freeze 1) ∷ step_5
 abbrev pub step_6 : Execution
 step_6 = event 1 (StoreHeader 3 header.Next 3) ∷ frozen_1
 
+abbrev pub lanes_3 : Execution
+lanes_3 = event 1 (StoreHeader 3 header.Lanes 1) ∷ step_6
+
 abbrev pub step_7 : Execution
-step_7 = event 1 (NewGroup 3 0 4 3) ∷ step_6
+step_7 = event 1 (NewGroup 3 0 4 3) ∷ lanes_3
 
 abbrev pub step_8 : Execution
 step_8 = event 1 (StoreOpened 1 3) ∷ step_7
@@ -114,8 +132,17 @@ step_10 = event 1 (StoreHeader 1 header.Phase 0) ∷ frozen_2
 abbrev pub step_11 : Execution
 step_11 = event 1 (StoreHeader 1 header.Next 0) ∷ step_10
 
+abbrev pub lanes_again : Execution
+lanes_again = event 1 (StoreHeader 1 header.Lanes 1) ∷ step_11
+
+abbrev pub first_cut_again : Execution
+first_cut_again = event 1 (StoreHeader 1 (header.Cut 0) 5) ∷ lanes_again
+
+abbrev pub cuts_again : Execution
+cuts_again = event 1 (StoreHeader 1 (header.Cut 1) 0) ∷ first_cut_again
+
 abbrev pub step_12 : Execution
-step_12 = event 1 (NewGroup 1 5 greatest_key 1) ∷ step_11
+step_12 = event 1 (NewGroup 1 5 greatest_key 1) ∷ cuts_again
 
 -- ---- the keys, in two ranges ----
 

@@ -1,7 +1,12 @@
 pub mod Equations
+pub mod HeaderWrites
+pub mod NewLanes
 pub mod SmallForms
 pub mod SmallTable
+pub mod PutWitness
 pub mod OpenedWitness
+pub mod MeanwhileWitness
+pub mod MergedWitness
 pub mod Witness
 pub mod FourGroups
 pub mod TwoNewGroups

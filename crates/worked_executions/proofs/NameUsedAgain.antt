@@ -1,21 +1,21 @@
 -- A rebuild whose name is used again is valid while another group of the old rebuild of this name
 -- is still in the chain.
 use Rattle.std.proofs.Common.{◌≡◌, ℕ, ◌+◌, ◌<◌, ◌≤◌, inl, inr, ⊎_elim, Some}
-use Rattle.std.proofs.Common.{Bool, true, false, refl, sym, ◌∙◌, subst}
+use Rattle.std.proofs.Common.{Bool, true, false, cond, refl, sym, ◌∙◌, subst}
+use Rattle.std.specs.Prelude.{◌==◌}
 use Rattle.std.proofs.Common.{arith, nat_lt}
 use Rattle.worked_executions.proofs.Equations.{Same, SameOption}
 use Rattle.std.proofs.lemmas.Bool.{ltb-false, ltb-true}
 use mathlib.Core.Logic.{dite}
 use native.Mathlib.Decide.{ℕ_discrete}
 use Rattle.index_machine.proofs.Executions.{choice-other}
-use Rattle.index_machine.specs.Conditions.{Valid}
 use Rattle.index_machine.specs.Groups.{phase, rebuild, unless_named}
 use Rattle.index_machine.specs.KeyRanges.{group_of, successor}
 use Rattle.index_machine.specs.Openings.{greatest_key, within}
 use Rattle.index_machine.specs.Permissions.{IsGone}
 use Rattle.index_machine.specs.RebuildConditions.{HasNewGroup, IsBehindFirst}
 use Rattle.index_machine.specs.RebuildConditions.{IsNextWord, IsSettled, IsSized, MayBegin}
-use Rattle.index_machine.specs.RebuildConditions.{MayFillHeader, MayInstall, MayOpen}
+use Rattle.index_machine.specs.RebuildConditions.{MayInstall, MayOpen}
 use Rattle.index_machine.specs.Words.{word}
 use Rattle.index_machine.proofs.Ranges.{in_range, range_in}
 use Rattle.word_layout.specs.Words.{Header}
@@ -27,7 +27,8 @@ use Rattle.word_layout.specs.declared.headers.HeaderWord.TheVariants as header
 use Rattle.word_layout.specs.declared.phase.Phase.TheVariants.{Open, Opened}
 use Rattle.worked_executions.proofs.FourGroups.{o}
 use Rattle.worked_executions.proofs.FourGroups.{step_6, step_7}
-use Rattle.worked_executions.proofs.FourGroups.{step_8, frozen_2, step_10, step_11, step_12}
+use Rattle.worked_executions.proofs.FourGroups.{step_8, frozen_2, step_10, step_11, lanes_again}
+use Rattle.worked_executions.proofs.FourGroups.{first_cut_again, cuts_again, step_12}
 use Rattle.worked_executions.proofs.FourGroups.{is_low, group_1, new_2, group_2}
 use Rattle.worked_executions.proofs.FourGroups.{new_3, at_key}
 use Rattle.worked_executions.proofs.FourGroups.{not_0_in_1, not_3_in_1, not_0_in_2, not_1_in_2}
@@ -35,7 +36,9 @@ use Rattle.worked_executions.proofs.FourGroups.{not_1_after}
 use Rattle.worked_executions.proofs.FourGroups.{opened_7, opened_11, none_12}
 use Rattle.worked_executions.proofs.FourGroups.{is_keeper, no_insert}
 use Rattle.worked_executions.proofs.FourGroups.{first_slot_used, gone_if}
-use Rattle.worked_executions.proofs.SplitInTwo.{begins3, links3, sized_empty, valid_5}
+use Rattle.worked_executions.proofs.HeaderWrites.{IsFreeRow, written}
+use Rattle.worked_executions.proofs.NewLanes.{one_lane}
+use Rattle.worked_executions.proofs.SplitInTwo.{sized_empty, valid_begun_3}
 
 -- ---- the second rebuild ----
 
@@ -163,96 +166,60 @@ settled1_frozen_2 f at g e = ⊎_elim
     (λ (z : Same 0 g × Same 1 f). subst (λ (y : ℕ). IsGone o y frozen_2) z.0 gone0_frozen_2)
     (opened_11 g f e)
 
-fills1 : MayFillHeader o frozen_2 1 1 header.Phase
-fills1 = record {
+free1_frozen_2 : IsFreeRow o 1 frozen_2
+free1_frozen_2 = record {
+  valid = (
+    record { keeper = refl; exists = omega arith; was = refl; chained = (5, refl) },
+    (installs_2, (opens1, valid_begun_3 3, is_keeper), is_keeper),
+    is_keeper,
+  );
   keeper = refl;
   exists = omega arith;
-  unowned = not_1_in_2;
-  stage = inl (gone1_frozen_2, settled1_frozen_2, not_1_after);
+  gone = gone1_frozen_2;
+  settled = settled1_frozen_2;
+  unplanned = not_1_after;
 }
-
-valid_10 : Valid o step_10
-valid_10 = (
-  fills1,
-  (
-    record { keeper = refl; exists = omega arith; was = refl; chained = (5, refl) },
-    (
-      installs_2,
-      (
-        opens1,
-        (
-          begins3 3,
-          (
-            links3,
-            (record { keeper = refl; exists = omega arith; was = refl; chained = (0, refl) }, valid_5, is_keeper),
-            is_keeper,
-          ),
-          is_keeper,
-        ),
-        is_keeper,
-      ),
-      is_keeper,
-    ),
-    is_keeper,
-  ),
-  is_keeper,
-)
 
 -- ---- the name is used again ----
 
-gone1_10 : IsGone o 1 step_10
-gone1_10 = gone_if step_10 3 1 refl refl refl refl (λ e. omega (arith, e)) not_1_in_2
+free1_lanes : IsFreeRow o 1 lanes_again
+free1_lanes = written o 1 header.Lanes 1 step_11 tt
+    (written o 1 header.Next 0 step_10 tt (written o 1 header.Phase 0 frozen_2 tt free1_frozen_2))
 
-gone0_10 : IsGone o 0 step_10
-gone0_10 = gone_if step_10 3 0 refl refl refl refl (λ e. omega (arith, e)) not_0_in_2
+free1_cuts : IsFreeRow o 1 cuts_again
+free1_cuts = written o 1 (header.Cut 1) 0 first_cut_again (omega arith)
+    (written o 1 (header.Cut 0) 5 lanes_again (omega arith) free1_lanes)
 
-settled1_10 : IsSettled o 1 step_10
-settled1_10 f at g e = ⊎_elim
-    (λ (z : Same 1 g × Same 3 f). subst (λ (y : ℕ). IsGone o y step_10) z.0 gone1_10)
-    (λ (z : Same 0 g × Same 1 f). subst (λ (y : ℕ). IsGone o y step_10) z.0 gone0_10)
-    (opened_11 g f e)
+gone0_cuts : IsGone o 0 cuts_again
+gone0_cuts = gone_if cuts_again 3 0 refl refl refl refl (λ e. omega (arith, e)) not_0_in_2
 
-links_again : MayFillHeader o step_10 1 1 header.Next
-links_again = record {
-  keeper = refl;
-  exists = omega arith;
-  unowned = not_1_in_2;
-  stage = inl (gone1_10, settled1_10, not_1_after);
-}
+-- the cut of the second lane, which was there before, is cleared
+cleared_cut : (w : Bool) (i : ℕ) → 1 ≤ i → Same (cond w 0 (cond (0 == i) 5 (cond w 3 0))) 0
+cleared_cut true i from = refl
+cleared_cut false i from = choice-other 0 i 5 0 (λ e. omega (arith, from, e))
 
-gone1_11 : IsGone o 1 step_11
-gone1_11 = gone_if step_11 3 1 refl refl refl refl (λ e. omega (arith, e)) not_1_in_2
-
-gone0_11 : IsGone o 0 step_11
-gone0_11 = gone_if step_11 3 0 refl refl refl refl (λ e. omega (arith, e)) not_0_in_2
-
-valid_11 : Valid o step_11
-valid_11 = (links_again, valid_10, is_keeper)
-
-begins_again : MayBegin o step_11 1 1 5 greatest_key 1
+begins_again : MayBegin o cuts_again 1 1 5 greatest_key 1
 begins_again = record {
   keeper = refl;
   exists = omega arith;
   ordered = (omega arith, omega arith);
-  gone = gone1_11;
-  settled = λ f e g at. ⊎_elim
-      (λ (z : Same 1 g × Same 3 f). subst (λ (y : ℕ). IsGone o y step_11) z.0 gone1_11)
-      (λ (z : Same 0 g × Same 1 f). subst (λ (y : ℕ). IsGone o y step_11) z.0 gone0_11)
-      (opened_11 g f at);
+  gone = free1_cuts.gone;
+  settled = free1_cuts.settled;
   phase_word = refl;
-  head_word = refl;
-  closed = no_insert step_11 1 refl (λ f. refl);
+  new_lanes = one_lane o 1 5 greatest_key cuts_again (omega arith) refl refl
+      (λ i from. cleared_cut (1 == i) i from) (λ i. refl);
+  closed = no_insert cuts_again 1 refl (λ f. refl);
   no_row = λ p k e. cc;
   not_live = λ k p j h e. cc;
   no_target = λ a p y j h e. cc;
   unreached = λ b p j is m e. cc;
   idle = λ k f e. ⊎_elim
-      (λ (z : Same 1 (group_of o k step_11) × Same 3 f). not_1_in_2 k (sym z.0))
-      (λ (z : Same 0 (group_of o k step_11) × Same 1 f). not_0_in_2 k (sym z.0))
-      (opened_11 (group_of o k step_11) f e);
+      (λ (z : Same 1 (group_of o k cuts_again) × Same 3 f). not_1_in_2 k (sym z.0))
+      (λ (z : Same 0 (group_of o k cuts_again) × Same 1 f). not_0_in_2 k (sym z.0))
+      (opened_11 (group_of o k cuts_again) f e);
   replaced = λ g e. ⊎_elim
       (λ (z : Same 1 g × Same 3 1). let bad = z.1 in absurd (omega (arith, bad)))
-      (λ (z : Same 0 g × Same 1 1). subst (λ (y : ℕ). IsGone o y step_11) z.0 gone0_11)
+      (λ (z : Same 0 g × Same 1 1). subst (λ (y : ℕ). IsGone o y cuts_again) z.0 gone0_cuts)
       (opened_11 g 1 e);
   no_old_target = λ a p y g k e at s. cc;
 }
@@ -325,5 +292,5 @@ name_again_valid = (
   o,
   refl,
   refl,
-  (opens2, (begins_again, valid_11, is_keeper), is_keeper),
+  (opens2, (begins_again, free1_cuts.valid, is_keeper), is_keeper),
 )

@@ -13,19 +13,20 @@ use Rattle.index_machine.specs.KeyRanges.{group_of, successor}
 use Rattle.index_machine.specs.Openings.{greatest_key, within}
 use Rattle.index_machine.specs.Permissions.{IsGone}
 use Rattle.index_machine.specs.RebuildConditions.{IsSized, MayBegin}
-use Rattle.index_machine.specs.RebuildConditions.{MayFillHeader, MayInstall, MayOpen}
+use Rattle.index_machine.specs.RebuildConditions.{MayInstall, MayOpen}
 use Rattle.index_machine.specs.Words.{limits, word}
 use Rattle.index_machine.proofs.Ranges.{in_range}
 use Rattle.index_machine.specs.Rows.{InArray, role}
 use Rattle.word_layout.specs.Addresses.{array_address}
 use Rattle.word_layout.specs.Words.{Header}
-use Rattle.index_machine.specs.declared.events.Action.TheVariants.{StoreHeader}
+use Rattle.index_machine.specs.declared.events.Action.TheVariants.{NewGroup, StoreHeader}
 use Rattle.index_machine.specs.declared.events.InstallWord.TheVariants.{FirstSlot}
 use Rattle.machine_barriers.proofs.OpenedGroups.{open_not}
 use Rattle.index_machine.proofs.Options.{named_before, none_some, not_so, some_is}
 use Rattle.word_layout.specs.declared.headers.HeaderWord.TheVariants as header
 use Rattle.word_layout.specs.declared.phase.Phase.TheVariants.{Open, Opened}
-use Rattle.worked_executions.proofs.FourGroups.{o, frozen_0, step_1, step_2}
+use Rattle.worked_executions.proofs.FourGroups.{o, frozen_0, step_1, lanes_1, cuts_1, step_2}
+use Rattle.worked_executions.proofs.FourGroups.{lanes_2, first_cut_2, cuts_2}
 use Rattle.worked_executions.proofs.FourGroups.{step_3, step_4, step_5, frozen_1}
 use Rattle.worked_executions.proofs.FourGroups.{new_1}
 use Rattle.worked_executions.proofs.FourGroups.{at_key, not_1_in_0, not_2_in_0}
@@ -34,6 +35,8 @@ use Rattle.worked_executions.proofs.FourGroups.{none_1, none_2, none_3}
 use Rattle.worked_executions.proofs.FourGroups.{opened_6}
 use Rattle.worked_executions.proofs.FourGroups.{is_keeper, no_insert}
 use Rattle.worked_executions.proofs.FourGroups.{first_slot_used, gone_if}
+use Rattle.worked_executions.proofs.HeaderWrites.{IsFreeRow, written}
+use Rattle.worked_executions.proofs.NewLanes.{behind_cuts, one_lane, two_lanes}
 use Rattle.worked_executions.proofs.TwoNewGroups.{ArePair, new_at, pair_opens}
 
 -- ---- the first rebuild ----
@@ -41,27 +44,35 @@ use Rattle.worked_executions.proofs.TwoNewGroups.{ArePair, new_at, pair_opens}
 gone1_frozen_0 : IsGone o 1 frozen_0
 gone1_frozen_0 = gone_if frozen_0 0 1 refl refl refl refl (λ e. omega (arith, e)) not_1_in_0
 
-links1 : MayFillHeader o frozen_0 1 1 header.Next
-links1 = record {
+free1_frozen_0 : IsFreeRow o 1 frozen_0
+free1_frozen_0 = record {
+  valid = (
+    record { keeper = refl; exists = omega arith; was = refl; chained = (0, refl) },
+    tt,
+    is_keeper,
+  );
   keeper = refl;
   exists = omega arith;
-  unowned = not_1_in_0;
-  stage = inl (gone1_frozen_0, (λ f e. absurd (none_1 1 f e)), (λ k e. none_some e));
+  gone = gone1_frozen_0;
+  settled = λ f e. absurd (none_1 1 f e);
+  unplanned = λ k e. none_some e;
 }
 
-gone1_1 : IsGone o 1 step_1
-gone1_1 = gone_if step_1 0 1 refl refl refl refl (λ e. omega (arith, e)) not_1_in_0
+free1_cuts : IsFreeRow o 1 cuts_1
+free1_cuts = written o 1 (header.Cut 1) 3 lanes_1 (omega arith)
+    (written o 1 header.Lanes 2 step_1 tt (written o 1 header.Next 3 frozen_0 tt free1_frozen_0))
 
-begins1 : MayBegin o step_1 1 1 0 4 1
+begins1 : MayBegin o cuts_1 1 1 0 4 1
 begins1 = record {
   keeper = refl;
   exists = omega arith;
   ordered = (omega arith, omega arith);
-  gone = gone1_1;
-  settled = λ f e. absurd (none_1 1 f e);
+  gone = free1_cuts.gone;
+  settled = free1_cuts.settled;
   phase_word = refl;
-  head_word = refl;
-  closed = no_insert step_1 1 refl (λ f. refl);
+  new_lanes = two_lanes o 1 0 3 4 cuts_1 (omega arith) (omega arith) refl refl refl
+      (λ i from. choice-other 1 i 3 0 (λ e. omega (arith, from, e))) (λ i. refl);
+  closed = no_insert cuts_1 1 refl (λ f. refl);
   no_row = λ p k e. cc;
   not_live = λ k p j h e. cc;
   no_target = λ a p y j h e. cc;
@@ -74,16 +85,37 @@ begins1 = record {
 gone2_2 : IsGone o 2 step_2
 gone2_2 = gone_if step_2 0 2 refl refl refl refl (λ e. omega (arith, e)) not_2_in_0
 
-begins2 : MayBegin o step_2 1 2 5 greatest_key 1
+not_2_yet : (k : ℕ) → successor k step_2 ≢ Some 2
+not_2_yet = at_key (λ a b w. SameOption (cond a (Some 1) None) (Some 2) → ⊥)
+    (λ e. let bad : Same 1 2 = some_is e in omega (arith, bad)) (λ e. none_some e)
+    (λ e. none_some e)
+
+free2_2 : IsFreeRow o 2 step_2
+free2_2 = record {
+  valid = (begins1, free1_cuts.valid, is_keeper);
+  keeper = refl;
+  exists = omega arith;
+  gone = gone2_2;
+  settled = λ f e. absurd (none_2 2 f e);
+  unplanned = not_2_yet;
+}
+
+free2_cuts : IsFreeRow o 2 cuts_2
+free2_cuts = written o 2 (header.Cut 1) 9 first_cut_2 (omega arith)
+    (written o 2 (header.Cut 0) 5 lanes_2 (omega arith)
+    (written o 2 header.Lanes 2 step_2 tt free2_2))
+
+begins2 : MayBegin o cuts_2 1 2 5 greatest_key 1
 begins2 = record {
   keeper = refl;
   exists = omega arith;
   ordered = (omega arith, omega arith);
-  gone = gone2_2;
-  settled = λ f e. absurd (none_2 2 f e);
+  gone = free2_cuts.gone;
+  settled = free2_cuts.settled;
   phase_word = refl;
-  head_word = refl;
-  closed = no_insert step_2 2 refl (λ f. refl);
+  new_lanes = two_lanes o 2 5 9 greatest_key cuts_2 (omega arith) (omega arith) refl refl refl
+      (λ i from. behind_cuts i 5 9 0 from) (λ i. refl);
+  closed = no_insert cuts_2 2 refl (λ f. refl);
   no_row = λ p k e. cc;
   not_live = λ k p j h e. cc;
   no_target = λ a p y j h e. cc;
@@ -169,27 +201,7 @@ installs_1 = record {
 pub valid_5 : Valid o step_5
 valid_5 = (
   installs_1,
-  (
-    opens0,
-    (
-      begins2,
-      (
-        begins1,
-        (
-          links1,
-          (
-            record { keeper = refl; exists = omega arith; was = refl; chained = (0, refl) },
-            tt,
-            is_keeper,
-          ),
-          is_keeper,
-        ),
-        is_keeper,
-      ),
-      is_keeper,
-    ),
-    is_keeper,
-  ),
+  (opens0, (begins2, free2_cuts.valid, is_keeper), is_keeper),
   is_keeper,
 )
 
@@ -203,41 +215,49 @@ not_3_yet = at_key (λ a b w. SameOption (new_1 a b) (Some 3) → ⊥)
     (λ e. let bad : Same 1 3 = some_is e in omega (arith, bad))
     (λ e. let bad : Same 2 3 = some_is e in omega (arith, bad)) (λ e. none_some e)
 
-pub links3 : MayFillHeader o frozen_1 1 3 header.Next
-links3 = record {
+free3_frozen_1 : IsFreeRow o 3 frozen_1
+free3_frozen_1 = record {
+  valid = (
+    record { keeper = refl; exists = omega arith; was = refl; chained = (0, refl) },
+    valid_5,
+    is_keeper,
+  );
   keeper = refl;
   exists = omega arith;
-  unowned = not_3_in_1;
-  stage = inl (
-    gone3_frozen_1,
-    (λ f e. let bad = (opened_6 3 f e).0 in absurd (omega (arith, bad))),
-    not_3_yet,
-  );
+  gone = gone3_frozen_1;
+  settled = λ f e. let bad = (opened_6 3 f e).0 in absurd (omega (arith, bad));
+  unplanned = not_3_yet;
 }
 
--- with this next word the row is ready to be begun
+-- with this next word, and one lane, the row is ready to be begun
 abbrev pub linked_3 : ℕ → Execution
 linked_3 next = event 1 (StoreHeader 3 header.Next next) ∷ frozen_1
 
-gone3_linked : (next : ℕ) → IsGone o 3 (linked_3 next)
-gone3_linked next =
-    gone_if (linked_3 next) 1 3 refl refl refl refl (λ e. omega (arith, e)) not_3_in_1
+abbrev pub laned_3 : ℕ → Execution
+laned_3 next = event 1 (StoreHeader 3 header.Lanes 1) ∷ linked_3 next
 
-pub begins3 : (next : ℕ) → MayBegin o (linked_3 next) 1 3 0 4 3
+free3 : (next : ℕ) → IsFreeRow o 3 (laned_3 next)
+free3 next = written o 3 header.Lanes 1 (linked_3 next) tt
+    (written o 3 header.Next next frozen_1 tt free3_frozen_1)
+
+begins3 : (next : ℕ) → MayBegin o (laned_3 next) 1 3 0 4 3
 begins3 next = record {
   keeper = refl;
   exists = omega arith;
   ordered = (omega arith, omega arith);
-  gone = gone3_linked next;
-  settled = λ f e. let bad = (opened_6 3 f e).0 in absurd (omega (arith, bad));
+  gone = (free3 next).gone;
+  settled = (free3 next).settled;
   phase_word = refl;
-  head_word = refl;
-  closed = no_insert (linked_3 next) 3 refl (λ f. refl);
+  new_lanes = one_lane o 3 0 4 (laned_3 next) (omega arith) refl refl (λ i from. refl) (λ i. refl);
+  closed = no_insert (laned_3 next) 3 refl (λ f. refl);
   no_row = λ p k e. cc;
   not_live = λ k p j h e. cc;
   no_target = λ a p y j h e. cc;
   unreached = λ b p j is m e. cc;
-  idle = λ k f e. not_0_in_1 k (sym (opened_6 (group_of o k (linked_3 next)) f e).0);
+  idle = λ k f e. not_0_in_1 k (sym (opened_6 (group_of o k (laned_3 next)) f e).0);
   replaced = λ g e. let bad = (opened_6 g 3 e).1 in absurd (omega (arith, bad));
   no_old_target = λ a p y g k e at s. let bad = (opened_6 g 3 at).1 in omega (arith, bad);
 }
+
+pub valid_begun_3 : (next : ℕ) → Valid o (event 1 (NewGroup 3 0 4 3) ∷ laned_3 next)
+valid_begun_3 next = (begins3 next, (free3 next).valid, is_keeper)

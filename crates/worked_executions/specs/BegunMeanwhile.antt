@@ -13,13 +13,18 @@ use Rattle.index_machine.specs.Conditions.{Valid}
 use Rattle.worked_executions.specs.NameUsedAgain.{four_groups, split_in_two}
 
 -- groups 1 and 2 answer for the keys up to 4 and behind it, and the rebuild named 3 made 3 and 0
--- for these keys: 1 is opened to it, and 2 not yet
+-- for these keys, 3 with one lane and 0 with one from 5 on and one from 8 on: 1 is opened to it, and 2
+-- not yet
 abbrev pub opened_in_part : Execution
 opened_in_part =
     event 1 (StoreOpened 1 3)
     ∷ event 1 (NewGroup 0 5 greatest_key 3)
+    ∷ event 1 (StoreHeader 0 (header.Cut 1) 8)
+    ∷ event 1 (StoreHeader 0 (header.Cut 0) 5)
+    ∷ event 1 (StoreHeader 0 header.Lanes 2)
     ∷ event 1 (StoreHeader 0 header.Phase 0)
     ∷ event 1 (NewGroup 3 0 4 3)
+    ∷ event 1 (StoreHeader 3 header.Lanes 1)
     ∷ event 1 (StoreHeader 3 header.Next 1)
     ∷ event 1 (Freeze 1)
     ∷ split_in_two

@@ -1,8 +1,9 @@
 -- A whole rebuild, with callers' steps in between, to its end with a row and a group row used
 -- again.
 --
--- The table has one caller, whose number is 0, a keeper, 1, two record rows, at 87 and 91, and two
--- groups. The first place of the array of group 1 is 55.
+-- The table has one caller, whose number is 0, a keeper, 1, two record rows, at 119 and 123, and two
+-- groups. The first place of the array of group 1 is 87. Group 0 is opened with one lane; group 1 and
+-- then group 0 are begun with two.
 use Rattle.std.specs.Prelude.{◌≡◌, false, [], ◌∷◌}
 use Rattle.word_layout.specs.declared.limits.Limits.{Limits}
 use Rattle.word_layout.specs.declared.places.Part.TheVariants.{Key, Value, Link}
@@ -13,7 +14,7 @@ use Rattle.index_machine.specs.declared.events.Action.TheVariants.{PopFree, Stor
 use Rattle.index_machine.specs.declared.events.Action.TheVariants.{LoadState, Lock, StoreValue}
 use Rattle.index_machine.specs.declared.events.Action.TheVariants.{Unlock}
 use Rattle.index_machine.specs.declared.events.Action.TheVariants.{LoadHead, LinkRow, Retire}
-use Rattle.index_machine.specs.declared.events.Action.TheVariants.{LoadPhase}
+use Rattle.index_machine.specs.declared.events.Action.TheVariants.{LoadHeader, LoadPhase}
 use Rattle.index_machine.specs.declared.events.Action.TheVariants.{Freeze, NewGroup, StoreArray}
 use Rattle.index_machine.specs.declared.events.Action.TheVariants.{StoreRedirect, StoreOpened}
 use Rattle.index_machine.specs.declared.events.Action.TheVariants.{Install}
@@ -44,28 +45,31 @@ small_limits =
       first_version = 0;
     }
 
--- a caller puts the key 5 with the value 7: it pops row 87, fills it and links it into group 0
+-- a caller puts the key 5 with the value 7: it pops row 119, fills it and links it into group 0
 abbrev pub with_a_record : Execution
 with_a_record =
     event 0 (Leave 2)
-    ∷ event 0 (LinkRow 0 87 (change.Put 0 5 7) 0 0)
-    ∷ event 0 (StorePrivate 87 Link 0)
-    ∷ event 0 (StorePrivate 87 Value 7)
-    ∷ event 0 (StorePrivate 87 Key 5)
-    ∷ event 0 (PopFree 87 91)
-    ∷ event 0 (LoadFreeLink 87 91)
-    ∷ event 0 (LoadFree 87)
+    ∷ event 0 (LinkRow 0 0 119 (change.Put 0 5 7) 0 0)
+    ∷ event 0 (StorePrivate 119 Link 0)
+    ∷ event 0 (StorePrivate 119 Value 7)
+    ∷ event 0 (StorePrivate 119 Key 5)
+    ∷ event 0 (PopFree 119 123)
+    ∷ event 0 (LoadFreeLink 119 123)
+    ∷ event 0 (LoadFree 119)
     ∷ event 0 (LoadPhase 0 0)
     ∷ event 0 (LoadSlotGroup 0 0 0)
     ∷ event 0 (LoadRoot 2)
     ∷ event 0 (Enter 1)
     ∷ []
 
--- the keeper freezes group 0, begins group 1 and opens group 0 to it
+-- the keeper freezes group 0, begins group 1 with a lane from the key 0 on and one from 6 on, and
+-- opens group 0 to it
 abbrev pub opened_to_group_1 : Execution
 opened_to_group_1 =
     event 1 (StoreOpened 0 1)
     ∷ event 1 (NewGroup 1 0 greatest_key 1)
+    ∷ event 1 (StoreHeader 1 (header.Cut 1) 6)
+    ∷ event 1 (StoreHeader 1 header.Lanes 2)
     ∷ event 1 (Freeze 0)
     ∷ with_a_record
 
@@ -73,48 +77,72 @@ opened_to_group_1 =
 abbrev pub changed_meanwhile : Execution
 changed_meanwhile =
     event 0 (Leave 4)
-    ∷ event 0 (Unlock 87 false (change.Put 0 5 8) 16)
-    ∷ event 0 (StoreValue 87 8)
-    ∷ event 0 (Lock 87 0)
-    ∷ event 0 (LoadState 87 0)
-    ∷ event 0 (LoadHead 0 87)
+    ∷ event 0 (Unlock 119 false (change.Put 0 5 8) 16)
+    ∷ event 0 (StoreValue 119 8)
+    ∷ event 0 (Lock 119 0)
+    ∷ event 0 (LoadState 119 0)
+    ∷ event 0 (LoadHead 0 0 119)
     ∷ event 0 (LoadPhase 0 6)
     ∷ event 0 (LoadSlotGroup 0 0 0)
     ∷ event 0 (LoadRoot 2)
     ∷ event 0 (Enter 3)
     ∷ opened_to_group_1
 
--- the keeper merges, installs and copies, and gives row 87 back
-abbrev pub rebuilt : Execution
-rebuilt =
-    event 1 (PushFree 87 91)
-    ∷ event 1 (StorePrivate 87 Link 91)
-    ∷ event 1 (Retire 87 0)
-    ∷ event 1 (StoreMoved 87)
-    ∷ event 1 (StoreDirect 55 87 5 false 0)
-    ∷ event 1 (Copy 55 8)
-    ∷ event 1 (Close 87 16)
-    ∷ event 1 (Install (FirstSlot 0) 1 0 greatest_key)
-    ∷ event 1 (StoreHeader 1 header.Size 1)
-    ∷ event 1 (StoreRedirect 1 55 5 87)
-    ∷ event 1 (StoreArray 1 55 Key 5)
+-- a caller puts the key 9 with the value 4: it comes by the opened group to the second lane of the
+-- new one, and links row 123 there
+abbrev pub linked_meanwhile : Execution
+linked_meanwhile =
+    event 0 (Leave 6)
+    ∷ event 0 (LinkRow 1 1 123 (change.Put 0 9 4) 0 0)
+    ∷ event 0 (StorePrivate 123 Link 0)
+    ∷ event 0 (StorePrivate 123 Value 4)
+    ∷ event 0 (StorePrivate 123 Key 9)
+    ∷ event 0 (PopFree 123 0)
+    ∷ event 0 (LoadFreeLink 123 0)
+    ∷ event 0 (LoadFree 123)
+    ∷ event 0 (LoadHead 1 1 0)
+    ∷ event 0 (LoadHeader 1 (header.Cut 1) 6)
+    ∷ event 0 (LoadHeader 1 header.Lanes 2)
+    ∷ event 0 (LoadPhase 0 6)
+    ∷ event 0 (LoadSlotGroup 0 0 0)
+    ∷ event 0 (LoadRoot 2)
+    ∷ event 0 (Enter 5)
     ∷ changed_meanwhile
 
--- a caller pops row 87 again
+-- the keeper merges, installs and copies, and gives row 119 back to the empty stack
+abbrev pub rebuilt : Execution
+rebuilt =
+    event 1 (PushFree 119 0)
+    ∷ event 1 (StorePrivate 119 Link 0)
+    ∷ event 1 (Retire 119 0)
+    ∷ event 1 (StoreMoved 119)
+    ∷ event 1 (StoreDirect 87 119 5 false 0)
+    ∷ event 1 (Copy 87 8)
+    ∷ event 1 (Close 119 16)
+    ∷ event 1 (Install (FirstSlot 0) 1 0 greatest_key)
+    ∷ event 1 (StoreHeader 1 header.Size 1)
+    ∷ event 1 (StoreRedirect 1 87 5 119)
+    ∷ event 1 (StoreArray 1 87 Key 5)
+    ∷ linked_meanwhile
+
+-- a caller pops row 119 again
 abbrev pub with_the_row_used_again : Execution
 with_the_row_used_again =
-    event 0 (Leave 6)
-    ∷ event 0 (PopFree 87 91)
-    ∷ event 0 (LoadFreeLink 87 91)
-    ∷ event 0 (LoadFree 87)
-    ∷ event 0 (Enter 5)
+    event 0 (Leave 8)
+    ∷ event 0 (PopFree 119 0)
+    ∷ event 0 (LoadFreeLink 119 0)
+    ∷ event 0 (LoadFree 119)
+    ∷ event 0 (Enter 7)
     ∷ rebuilt
 
--- the next rebuild begins in the row of group 0, whose header it writes first
+-- the next rebuild begins in the row of group 0, whose header it writes first: a lane from the key 0
+-- on, whose old head is cleared, and one from 9 on
 abbrev pub whole_rebuild : Execution
 whole_rebuild =
     event 1 (NewGroup 0 0 greatest_key 0)
-    ∷ event 1 (StoreHeader 0 header.BufferHead 0)
+    ∷ event 1 (StoreHeader 0 (header.Cut 1) 9)
+    ∷ event 1 (StoreHeader 0 header.Lanes 2)
+    ∷ event 1 (StoreHeader 0 (header.Head 0) 0)
     ∷ event 1 (StoreHeader 0 header.Phase 0)
     ∷ event 1 (Freeze 1)
     ∷ with_the_row_used_again

@@ -3,7 +3,7 @@
 //!
 //! They show no more than what happens in them. No caller is inside at a step of the keeper, no
 //! group that an install replaces has a left neighbour in the chain, nobody stores a slot or the
-//! root, no group is thawed, and no install has two old groups.
+//! root, no group is thawed, no install has two old groups, and no lane has two rows.
 #![tactic(auto)]
 
 mod laws;

@@ -1,9 +1,8 @@
 -- What the program may have done when it ends.
-use Rattle.std.specs.Prelude.{◌≡◌, ◌++◌, ℕ, List, [], MatchOption, None, Option, codes, decimal}
-use Rattle.std.specs.Io.KnownBytes.{append_known}
+use Rattle.std.specs.Prelude.{◌≡◌, ◌++◌, ℕ, List, [], MatchOption, None, codes, decimal}
 use Rattle.line_session.specs.declared.ends.Ended.{Ended}
 use Rattle.line_session.specs.declared.ends.Ended.TheVariants as ended
-use Rattle.line_session.specs.Ends.{EndsState, TakesFront}
+use Rattle.line_session.specs.Ends.{EndsState, HandsAllOn, HandsNotAllOn}
 use Rattle.line_session.specs.Served.{Serves}
 use Rattle.command_line.specs.declared.answers.Command.{Command}
 use Rattle.command_line.specs.Command.{IsCommand, asked_limits}
@@ -44,11 +43,11 @@ usage_line = codes "bad usage\n"
 abbrev pub limit_line : ℕ → List ℕ
 limit_line number = codes "bad limit " ++ decimal number ++ codes "\n"
 
--- what is written for a refusal: its line, or a front of it where the sink failed
-abbrev pub Refuses : List ℕ → Status → Option (List ℕ) → Option (List ℕ) → Status → Type 0
-Refuses line refused old new WriteFault = TakesFront line old new
-Refuses line refused old new Memory = new ≡ old
-Refuses line refused old new status = (status ≡ refused) × (new ≡ append_known old line)
+-- what is written for a refusal: its line, and all of it is handed on, but where the sink failed
+abbrev pub Refuses : List ℕ → Status → EndsState → EndsState → Status → Type 0
+Refuses line refused old new WriteFault = HandsNotAllOn line old new
+Refuses line refused old new Memory = new.written ≡ old.written
+Refuses line refused old new status = (status ≡ refused) × HandsAllOn line old new
 
 -- how the end of a session is told
 abbrev pub status_of : Ended → Status
@@ -65,7 +64,7 @@ unopened status = record { status = status; opened = None }
 -- the program told a refusal and did nothing else: nothing was read, and no index opened
 pub record OnlyRefuses (line : List ℕ) (refused : Status) (ends_old ends_new : EndsState)
     (outcome : Outcome) : Type 0 where
-  pub refusal : Refuses line refused ends_old.written ends_new.written outcome.status
+  pub refusal : Refuses line refused ends_old ends_new outcome.status
   pub unread : ends_new.left ≡ ends_old.left
   pub no_index : outcome ≡ unopened outcome.status
 

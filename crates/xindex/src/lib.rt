@@ -9,6 +9,8 @@ mod serving;
 mod status;
 mod top;
 
+pub use caller_phases::{Ran, run_phases};
+pub use line_session::{Gate, NoGate};
 pub use outcome::Outcome;
 pub use standard_ends::{StandardInput, StandardOutput};
 pub use status::Status;

@@ -10,16 +10,20 @@ ghost use Rattle.xindex_core.specs.Passes.{AreNewPasses, IsPassOf, caller_with, 
 ghost use Rattle.xindex_core.specs.Passes.{limits_of_index, log_of, number_of};
 ghost use Rattle.xindex.specs.Served.{HasServed, IsServed, first_log, known_to_first, log_of_first};
 
-use line_session::{Ended, Sink, Source, serve_one};
+use line_session::{Ended, Gate, Sink, Source, serve_one};
 use std::sync::{Mutex, Wait};
 use xindex_core::{Index, Name, NamedKeeper, Opened, Pass, Waiter};
 
-/// Serves one session over a new index, by its pass 0. The other passes know then what it knows.
-pub fn serve_alone<N: Name, R: Wait + Copy, S: Source, K: Sink>(
+/// The number of the one link.
+const PIPE_LINK: u64 = 0;
+
+/// Serves one session over a new index, by its pass 0, as link 0. The other passes know then what it knows.
+pub fn serve_alone<N: Name, R: Wait + Copy, S: Source, K: Sink, G: Gate>(
     rt: &R,
     opened: Opened,
     source: &mut S,
     sink: &mut K,
+    gate: &G,
     most: u64,
 ) -> (Ended, Opened)
     requires most { 1 ≤ most }
@@ -41,7 +45,7 @@ pub fn serve_alone<N: Name, R: Wait + Copy, S: Source, K: Sink>(
     } = opened;
     let first = passes.remove(0);
     let keeper = Mutex::new(NamedKeeper::<N>::new(keeper));
-    let (ended, first) = serve_by(rt, &index, first, &keeper, source, sink, most);
+    let (ended, first) = serve_by(rt, &index, first, &keeper, source, sink, gate, most);
     let keeper = keeper.into_inner().into_inner();
     let passes = told_all(&index, first, passes);
     (
@@ -55,13 +59,14 @@ pub fn serve_alone<N: Name, R: Wait + Copy, S: Source, K: Sink>(
 }
 
 // Serves the session by this pass.
-fn serve_by<N: Name, R: Wait + Copy, S: Source, K: Sink>(
+fn serve_by<N: Name, R: Wait + Copy, S: Source, K: Sink, G: Gate>(
     rt: &R,
     index: &Index,
     pass: Pass,
     keeper: &Mutex<NamedKeeper<N>>,
     source: &mut S,
     sink: &mut K,
+    gate: &G,
     most: u64,
 ) -> (Ended, Pass)
     requires most { 1 ≤ most }
@@ -80,7 +85,7 @@ fn serve_by<N: Name, R: Wait + Copy, S: Source, K: Sink>(
         (K.state sink.old) (K.state sink.new) }
 {
     let mut waiter = Waiter::new(index, pass, keeper);
-    let ended = serve_one(rt, &mut waiter, source, sink, most);
+    let ended = serve_one(rt, &mut waiter, source, sink, gate, PIPE_LINK, most);
     (ended, waiter.finish())
 }
 

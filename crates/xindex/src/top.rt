@@ -13,25 +13,30 @@ ghost use Rattle.xindex.specs.Outcome.{usage_line};
 use crate::serving::serve_alone;
 use crate::{Outcome, Status};
 use command_line::{Command, CommandError, Mode, read_command};
-use line_session::{Ended, Sink, Source, write_all};
+use line_session::{Ended, Gate, Sink, Source, write_out};
 use std::alloc::Global;
 use std::marker::Brand;
-use std::sync::Wait;
+use std::sync::{Arc, Wait};
+use std::thread::Threads;
 use wire_commands::write_number;
 use xindex_core::{Index, OpenError, Opened};
 
-/// All that the program does. `words` are those of the command line after the program's name.
+/// All that the program does. `words` are those of the command line after the program's name. Each request waits at the
+/// gate before it is asked.
 ///
 /// A session is served over an empty index, by its pass 0, and the index is handed out. Words that ask
 /// for nothing are answered by one line, and so are limits that break a rule; then nothing is read or
 /// opened. `Memory` may come for any words.
-pub fn xindex<R: Wait + Copy, S: Source, K: Sink>(
+pub fn xindex<R, S: Source, K: Sink, G: Gate + Send + Sync + 'static>(
     rt: &R,
     alloc: Global,
     words: &[&str],
     source: &mut S,
     sink: &mut K,
+    gate: Arc<G>,
 ) -> Outcome
+where
+    R: Threads + Wait + Copy + Send + Sync + 'static,
     // Words that ask for a session, with limits that keep the rules, get one of the bytes taken.
     ensures session { (command : Command) → IsCommand (texts_of words.now) command
         → KeepsRules (asked_limits (texts_of words.now))
@@ -70,7 +75,7 @@ pub fn xindex<R: Wait + Copy, S: Source, K: Sink>(
         (K.state sink.old) (K.state sink.new) }
 {
     match read_command(alloc, words) {
-        Ok(command) => run(rt, alloc, command, source, sink),
+        Ok(command) => run(rt, alloc, command, source, sink, gate),
         Err(CommandError::Usage) => {
             Outcome::unopened(refuse(sink, b"bad usage\n", Status::Usage))
         }
@@ -79,12 +84,13 @@ pub fn xindex<R: Wait + Copy, S: Source, K: Sink>(
 }
 
 // Runs the command over a new index, if its limits keep the rules.
-fn run<R: Wait + Copy, S: Source, K: Sink>(
+fn run<R: Wait + Copy, S: Source, K: Sink, G: Gate>(
     rt: &R,
     alloc: Global,
     command: Command,
     source: &mut S,
     sink: &mut K,
+    gate: Arc<G>,
 ) -> Outcome
     requires { 1 ≤ command.bytes }
     ensures session { KeepsRules command.limits → PipesOrLacksMemory command.limits command.bytes
@@ -109,7 +115,7 @@ fn run<R: Wait + Copy, S: Source, K: Sink>(
 {
     match Index::open(alloc, command.limits, &[]) {
         Ok(opened) => match command.mode {
-            Mode::Pipe => pipe(rt, opened, source, sink, command.bytes),
+            Mode::Pipe => pipe(rt, opened, source, sink, &*gate, command.bytes),
         },
         Err(OpenError::BadLimit { number }) => Outcome::unopened(refuse_limits(sink, number)),
         Err(OpenError::Memory) => Outcome::unopened(Status::Memory),
@@ -117,11 +123,12 @@ fn run<R: Wait + Copy, S: Source, K: Sink>(
 }
 
 // Serves one session over the new index.
-fn pipe<R: Wait + Copy, S: Source, K: Sink>(
+fn pipe<R: Wait + Copy, S: Source, K: Sink, G: Gate>(
     rt: &R,
     opened: Opened,
     source: &mut S,
     sink: &mut K,
+    gate: &G,
     most: u64,
 ) -> Outcome
     requires most { 1 ≤ most }
@@ -134,7 +141,7 @@ fn pipe<R: Wait + Copy, S: Source, K: Sink>(
     ensures write_faults { CountsWrite (result.status ≡ Status.WriteFault)
         (K.state sink.old) (K.state sink.new) }
 {
-    let (ended, opened) = serve_alone::<Brand, R, S, K>(rt, opened, source, sink, most);
+    let (ended, opened) = serve_alone::<Brand, R, S, K, G>(rt, opened, source, sink, gate, most);
     Outcome {
         status: status_of(ended),
         opened: Some(opened),
@@ -156,7 +163,7 @@ fn status_of(ended: Ended) -> Status
 // Tells which rule the limits break first.
 fn refuse_limits<K: Sink>(sink: &mut K, number: u32) -> Status
     ensures refusal { Refuses (limit_line number) Status.BadLimits
-        (K.state sink.old).written (K.state sink.new).written result }
+        (K.state sink.old) (K.state sink.new) result }
     ensures no_memory { result ≢ Status.Memory }
     ensures write_faults { CountsWrite (result ≡ Status.WriteFault)
         (K.state sink.old) (K.state sink.new) }
@@ -166,17 +173,17 @@ fn refuse_limits<K: Sink>(sink: &mut K, number: u32) -> Status
     refuse(sink, &line[..len], Status::BadLimits)
 }
 
-// Tells a refusal. Where that fails, the fault is the status.
+// Tells a refusal, and hands it on. Where that fails, the fault is the status.
 fn refuse<K: Sink>(sink: &mut K, line: &[u8], refused: Status) -> Status
     requires no_fault { refused ≢ Status.WriteFault }
     requires not_for_memory { refused ≢ Status.Memory }
     ensures refusal { Refuses line.now refused
-        (K.state sink.old).written (K.state sink.new).written result }
+        (K.state sink.old) (K.state sink.new) result }
     ensures no_memory { result ≢ Status.Memory }
     ensures write_faults { CountsWrite (result ≡ Status.WriteFault)
         (K.state sink.old) (K.state sink.new) }
 {
-    match write_all(sink, line) {
+    match write_out(sink, line) {
         Ok(()) => refused,
         Err(_) => Status::WriteFault,
     }

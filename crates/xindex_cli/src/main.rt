@@ -6,18 +6,24 @@ use std::env;
 use std::env::Env;
 use std::io::ErrorKind;
 use std::process::ExitCode;
-use xindex::{StandardInput, StandardOutput, Status, xindex};
+use std::sync::Arc;
+use xindex::{NoGate, StandardInput, StandardOutput, Status, xindex};
 
 fn main(rt: HostRuntime) -> ExitCode {
     let mut source = StandardInput::new(rt.stdin());
-    let mut sink = StandardOutput::new(rt.stdout());
+    let Ok(mut sink) = StandardOutput::new(rt.alloc(), rt.stdout()) else {
+        return ExitCode::from(Status::Memory.number());
+    };
     let Ok(words) = words_of(&rt) else {
         return ExitCode::from(Status::Memory.number());
     };
     let Ok(texts) = texts_of(rt.alloc(), &words) else {
         return ExitCode::from(Status::Memory.number());
     };
-    let outcome = xindex(&rt, rt.alloc(), &texts, &mut source, &mut sink);
+    let Ok(gate) = Arc::new(rt.alloc(), NoGate) else {
+        return ExitCode::from(Status::Memory.number());
+    };
+    let outcome = xindex(&rt, rt.alloc(), &texts, &mut source, &mut sink, gate);
     ExitCode::from(outcome.status.number())
 }
 

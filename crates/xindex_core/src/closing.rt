@@ -17,7 +17,7 @@ use std::error::Error;
 use std::fmt;
 use word_layout::Layout;
 
-/// An index that was not closed, since there was not enough memory for its pairs.
+/// An index that was not closed, since there was not enough memory for a copy of its words, its hands or its pairs.
 #[derive(Drop)]
 pub struct Unclosed {
     pub index: Index,

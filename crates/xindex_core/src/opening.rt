@@ -13,7 +13,7 @@ use word_layout::Limits;
 
 impl Index {
     /// An index with these limits, which is empty: `rows` has to be so by now. The table takes 8 bytes a
-    /// word.
+    /// word, and 120 more for each epoch, the head of the free stack and the root word.
     ///
     /// Limits are refused before any memory is taken.
     pub fn open(alloc: Global, limits: Limits, rows: &[(u64, u64)]) -> Result<Opened, OpenError>

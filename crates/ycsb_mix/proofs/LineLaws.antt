@@ -46,22 +46,12 @@ record SaysAll (callers : ℕ) (text : List ℕ) (said : List Line) : Type 0 whe
   pub lines : List (List ℕ)
   pub cut : HasLines text lines
   pub each : AllZip (Says callers) lines said
-  pub told_are : said ≡ filter is_told said
-
--- what a readable step says is told
-told : (callers : ℕ) (s : Step) (rest : List Line) → IsReadable callers s
-    → rest ≡ filter is_told rest → said_by s ∷ rest ≡ filter is_told (said_by s ∷ rest)
-told callers step.Phase rest readable e = ap (λ l. said_by step.Phase ∷ l) e
-told callers (step.Caller caller) rest readable e = ap (λ l. said_by (step.Caller caller) ∷ l) e
-told callers (step.Get key) rest readable e = ap (λ l. said_by (step.Get key) ∷ l) e
-told callers (step.Put key value) rest readable e = ap (λ l. said_by (step.Put key value) ∷ l) e
-told callers (step.Scan from count) rest readable e = absurd readable
 
 -- the lines of readable steps say what the steps are
 says_all : (callers : ℕ) (steps : List Step) → callers ≤ 64
     → AllByRecursion (IsReadable callers) steps
     → SaysAll callers (flat_map line_of steps) (map said_by steps)
-says_all callers [] few readable = record { lines = []; cut = refl; each = tt; told_are = refl }
+says_all callers [] few readable = record { lines = []; cut = refl; each = tt }
 says_all callers (s ∷ steps) few readable =
     let here = reads_back callers s few readable.0 in
     let whole = here.0 in
@@ -73,7 +63,6 @@ says_all callers (s ∷ steps) few readable =
       lines = whole ∷ after.lines;
       cut = (rest, record { whole = here.1; cut = inl split }, after.cut);
       each = (here.3, after.each);
-      told_are = told callers s (map said_by steps) readable.0 after.told_are;
     }
 
 -- all that comes of elements with one property has another
@@ -208,7 +197,7 @@ draws_no_scan mix load (suc n) g other =
 pub mix_is_trace : (mix : Mix) (load ops callers seed : ℕ) → mix ≢ E → load ≤ 2 ^ 20
     → ops ≤ 2 ^ 20 → callers ≤ 64
     → IsTrace callers (text_of mix load ops callers seed)
-    (map said_by (steps_of mix load ops callers seed))
+    (filter is_told (map said_by (steps_of mix load ops callers seed)))
 mix_is_trace mix load ops callers seed other load_few ops_few few =
     let draws = draws_of mix load ops (generator_of seed) in
     let none = draws_no_scan mix load ops (generator_of seed) other in
@@ -226,5 +215,5 @@ mix_is_trace mix load ops callers seed other load_few ops_few few =
       cut = all.cut;
       said = map said_by (steps_of mix load ops callers seed);
       each = all.each;
-      told_are = all.told_are;
+      told_are = refl;
     }

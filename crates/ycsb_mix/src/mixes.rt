@@ -2,6 +2,7 @@
 ghost use Rattle.std.specs.Prelude.{◌≡◌};
 
 use std::alloc::AllocError;
+use std::error::Error;
 use std::fmt;
 
 /// What the operations of a trace are.
@@ -63,3 +64,5 @@ impl fmt::Display for MixError {
         })
     }
 }
+
+impl Error for MixError {}

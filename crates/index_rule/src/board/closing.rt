@@ -6,9 +6,12 @@ ghost use Rattle.word_layout.specs.Layout.{limits_of};
 ghost use Rattle.index_rule.specs.Hands.{opening_of};
 ghost use Rattle.index_rule.specs.declared.hand.Hand.{Hand};
 ghost use Rattle.index_rule.specs.Ended.{AreAllHands, AreOf, Includes, IncludesAll, Leaves};
+ghost use Rattle.index_rule.specs.Ended.{LeavesInMemory};
+ghost use Rattle.index_rule.specs.Offsets.{offset_count};
 
 use crate::board::Board;
 use crate::hand::Hand;
+use crate::memory::offset_of;
 use crate::plays::TakesIn;
 use crate::rule::Place;
 use atomic_table::Closed;
@@ -39,9 +42,10 @@ impl Board {
         ensures { Leaves (opening_of self) hands.items result.items }
     {
         let count = words.len();
+        let layout = self.layout;
         let closed = self.end(hands);
         for i in 0..count {
-            words[i] = closed.word(i);
+            words[i] = closed.word(offset_of(&layout, i as u32));
         }
         closed.free();
         words
@@ -50,9 +54,9 @@ impl Board {
     // Once all hands are one seat, it knows every event.
     fn end(self, mut hands: Vec<Hand>) -> Closed<(), Global>
         requires { AreAllHands self hands.items }
-        ensures words { Leaves (opening_of self) hands.items (slots_items result.words) }
+        ensures words { LeavesInMemory (opening_of self) hands.items (slots_items result.words) }
         ensures full { IsFull result.words }
-        ensures wide { slots_len result.words ≡ word_count (limits_of self.layout) }
+        ensures wide { slots_len result.words ≡ offset_count (limits_of self.layout) }
         ensures slotless { slots_len result.slots ≡ 0 }
     {
         let Hand {
@@ -62,7 +66,11 @@ impl Board {
             locked: _,
         } = hands.pop().unwrap();
         self.join_all(&mut seat, hands);
-        let Board { words, layout: _ } = self;
+        let Board {
+            words,
+            layout: _,
+            shift: _,
+        } = self;
         words.close_with(seat)
     }
 

@@ -19,10 +19,8 @@ impl Board {
         requires caller { IsCaller (opening_of self.now) caller }
         ensures { Makes self.now hand.old (LoadEpoch caller result) hand.new }
     {
-        let address = self.layout.epoch(caller) as usize;
-        self.words
-            .shared
-            .load::<LoadsEpoch>(&mut hand.seat, address)
+        let offset = self.epoch_offset(caller);
+        self.words.shared.load::<LoadsEpoch>(&mut hand.seat, offset)
     }
 
     /// Stores the hand's own epoch word, which is odd then.
@@ -34,10 +32,10 @@ impl Board {
             hand.new }
     {
         let word = hand.epoch.wrapping_add(1);
-        let address = self.layout.epoch(hand.number) as usize;
+        let offset = self.epoch_offset(hand.number);
         self.words
             .shared
-            .store::<StoresEnter>(&mut hand.seat, address, word);
+            .store::<StoresEnter>(&mut hand.seat, offset, word);
         hand.epoch = word;
     }
 
@@ -50,10 +48,10 @@ impl Board {
             hand.new }
     {
         let word = hand.epoch.wrapping_add(1);
-        let address = self.layout.epoch(hand.number) as usize;
+        let offset = self.epoch_offset(hand.number);
         self.words
             .shared
-            .store::<StoresLeave>(&mut hand.seat, address, word);
+            .store::<StoresLeave>(&mut hand.seat, offset, word);
         hand.epoch = word;
     }
 }

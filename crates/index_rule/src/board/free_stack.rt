@@ -37,8 +37,8 @@ impl Board {
         ensures step { Makes self.now hand.old (LoadFree result) hand.new }
         ensures row { result ≢ 0 → IsRow (limits (opening_of self.now)) result }
     {
-        let address = self.layout.free_head() as usize;
-        self.words.shared.load::<LoadsFree>(&mut hand.seat, address)
+        let offset = self.free_head_offset();
+        self.words.shared.load::<LoadsFree>(&mut hand.seat, offset)
     }
 
     /// Loads the link of the row that this hand observed as the head.
@@ -49,10 +49,10 @@ impl Board {
         requires observed { Observes hand.old.number place (known hand.old) }
         ensures { Makes self.now hand.old (LoadFreeLink place result) hand.new }
     {
-        let address = link_word(place) as usize;
+        let offset = self.cold_offset(link_word(place));
         self.words
             .shared
-            .load::<LoadsFreeLink>(&mut hand.seat, address)
+            .load::<LoadsFreeLink>(&mut hand.seat, offset)
     }
 
     /// Takes the observed row from the stack, where the head still names it.
@@ -66,11 +66,11 @@ impl Board {
         ensures { Exchanges self.now hand.old expected (PopFree expected next) (FailPop expected)
             result hand.new }
     {
-        let address = self.layout.free_head() as usize;
+        let offset = self.free_head_offset();
         let found = self
             .words
             .shared
-            .compare_exchange::<PopsFree>(&mut hand.seat, address, expected, next);
+            .compare_exchange::<PopsFree>(&mut hand.seat, offset, expected, next);
         if found == expected {
             Swap::Done
         } else {
@@ -91,9 +91,10 @@ impl Board {
             Makes self.now hand.old (StorePrivate place (part_of place word) value) hand.new }
         ensures row { row.new ≡ row.old }
     {
+        let offset = self.cold_offset(word);
         self.words
             .shared
-            .store::<StoresPrivate>(&mut hand.seat, word as usize, value);
+            .store::<StoresPrivate>(&mut hand.seat, offset, value);
     }
 
     /// Puts the row on the stack, where the head still is the one to which the row's link leads.
@@ -112,12 +113,12 @@ impl Board {
             result hand.new }
         ensures row { row.new ≡ row.old }
     {
-        let address = self.layout.free_head() as usize;
+        let offset = self.free_head_offset();
         let place = row.place as u64;
         let found = self
             .words
             .shared
-            .compare_exchange::<PushesFree>(&mut hand.seat, address, expected, place);
+            .compare_exchange::<PushesFree>(&mut hand.seat, offset, expected, place);
         if found == expected {
             Swap::Done
         } else {

@@ -29,9 +29,9 @@ impl Board {
         ensures number { hand.new.number ≡ hand.old.number }
         ensures written { AddsLook self.now start.now.value hand.old key found hand.new }
     {
-        let address = self.layout.free_head() as usize;
+        let offset = self.free_head_offset();
         self.words
             .shared
-            .load::<WritesLook<L>>(&mut hand.seat, address);
+            .load::<WritesLook<L>>(&mut hand.seat, offset);
     }
 }

@@ -9,6 +9,7 @@ ghost use Rattle.index_rule.specs.Ended.{AreAllHands};
 
 use crate::board::Board;
 use crate::hand::Hand;
+use crate::memory::{shift_of, spread};
 use crate::plays::MakesHand;
 use crate::rule::{Place, Words};
 use atomic_table::Table;
@@ -33,10 +34,12 @@ impl Board {
     {
         let opening = opening_with(alloc, layout, rows)?;
         let laid = laid_words(alloc, &opening, rows)?;
-        let (words, seat): (Words, _) = Table::of_words(alloc, laid.as_slice(), &opening)?;
+        let memory = spread(alloc, layout, laid)?;
+        let (words, seat): (Words, _) = Table::of_words(alloc, memory.as_slice(), &opening)?;
         let board = Board {
             words,
             layout: *layout,
+            shift: shift_of(layout),
         };
         let hands = board.make_hands(alloc, seat)?;
         Ok((board, hands))

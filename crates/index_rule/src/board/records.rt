@@ -27,9 +27,8 @@ impl Board {
         requires may { CanSee (opening_of self.now) hand.old.number place (known hand.old) }
         ensures { Makes self.now hand.old (LoadKey place result) hand.new }
     {
-        self.words
-            .shared
-            .load::<LoadsKey>(&mut hand.seat, place as usize)
+        let offset = self.cold_offset(place);
+        self.words.shared.load::<LoadsKey>(&mut hand.seat, offset)
     }
 
     /// Loads the state word of a place.
@@ -39,10 +38,8 @@ impl Board {
         requires may { CanSee (opening_of self.now) hand.old.number place (known hand.old) }
         ensures { Makes self.now hand.old (LoadState place result) hand.new }
     {
-        let address = state_word(place) as usize;
-        self.words
-            .shared
-            .load::<LoadsState>(&mut hand.seat, address)
+        let offset = self.cold_offset(state_word(place));
+        self.words.shared.load::<LoadsState>(&mut hand.seat, offset)
     }
 
     /// Loads the value word of a place.
@@ -52,10 +49,8 @@ impl Board {
         requires may { CanSee (opening_of self.now) hand.old.number place (known hand.old) }
         ensures { Makes self.now hand.old (LoadValue place result) hand.new }
     {
-        let address = value_word(place) as usize;
-        self.words
-            .shared
-            .load::<LoadsValue>(&mut hand.seat, address)
+        let offset = self.cold_offset(value_word(place));
+        self.words.shared.load::<LoadsValue>(&mut hand.seat, offset)
     }
 
     /// Takes the version lock of a place, where its state word still is the expected one.
@@ -68,12 +63,12 @@ impl Board {
         ensures { Exchanges self.now hand.old expected (Lock place expected)
             (FailLock place expected) result hand.new }
     {
-        let address = state_word(place) as usize;
+        let offset = self.cold_offset(state_word(place));
         let locked = locked_word(expected);
         let found = self
             .words
             .shared
-            .compare_exchange::<Locks>(&mut hand.seat, address, expected, locked);
+            .compare_exchange::<Locks>(&mut hand.seat, offset, expected, locked);
         if found == expected {
             hand.locked = expected;
             Swap::Done
@@ -89,10 +84,10 @@ impl Board {
         requires holds { HoldsLock (opening_of self.now) hand.old.number place (known hand.old) }
         ensures { Makes self.now hand.old (StoreValue place value) hand.new }
     {
-        let address = value_word(place) as usize;
+        let offset = self.cold_offset(value_word(place));
         self.words
             .shared
-            .store::<StoresValue>(&mut hand.seat, address, value);
+            .store::<StoresValue>(&mut hand.seat, offset, value);
     }
 
     /// Releases the version lock of a place and raises its version. The record is removed from then
@@ -108,9 +103,9 @@ impl Board {
             hand.new }
     {
         let word = released_word(hand.locked, removed);
-        let address = state_word(place) as usize;
+        let offset = self.cold_offset(state_word(place));
         self.words
             .shared
-            .store::<Unlocks>(&mut hand.seat, address, word);
+            .store::<Unlocks>(&mut hand.seat, offset, word);
     }
 }

@@ -21,8 +21,8 @@ impl Board {
             ⊎ IsKeeper (opening_of self.now) hand.old.number }
         ensures { Makes self.now hand.old (LoadRoot result) hand.new }
     {
-        let address = self.layout.root() as usize;
-        self.words.shared.load::<LoadsRoot>(&mut hand.seat, address)
+        let offset = self.root_offset();
+        self.words.shared.load::<LoadsRoot>(&mut hand.seat, offset)
     }
 
     /// Loads the group word of a slot: the number of a group.
@@ -33,9 +33,9 @@ impl Board {
             (known hand.old) }
         ensures { Makes self.now hand.old (LoadSlotGroup side slot result) hand.new }
     {
-        let address = self.layout.slot_group(side, slot) as usize;
+        let offset = self.cold_offset(self.layout.slot_group(side, slot));
         self.words
             .shared
-            .load::<LoadsSlotGroup>(&mut hand.seat, address)
+            .load::<LoadsSlotGroup>(&mut hand.seat, offset)
     }
 }

@@ -34,13 +34,13 @@ impl Board {
         requires note { IsNoteOf self.now note }
         ensures { Heeds self.now hand.old (known_of note) hand.new }
     {
-        let address = self.layout.free_head() as usize;
+        let offset = self.free_head_offset();
         self.words
             .shared
             .join_seat::<TakesIn>(&mut hand.seat, note.seat);
         // Taking in a seat tells nothing. That both knew beginnings of one execution is told by a load.
         self.words
             .shared
-            .load::<SettlesHeard>(&mut hand.seat, address);
+            .load::<SettlesHeard>(&mut hand.seat, offset);
     }
 }

@@ -1,11 +1,5 @@
-use Rattle.std.proofs.Common.{◌-◌}
-use Rattle.index_machine.specs.Words.{limits}
-use Rattle.index_rule.specs.Hands.{opening_of}
-use Rattle.delta_buffer.proofs.RowWalks.{HasCounted}
+use Rattle.delta_buffer.proofs.LaneCounts.{HasCountedLanes}
 use Rattle.delta_buffer.proofs.counting.count.Given as goal
 
-abbrev pub invariant-loop-next : goal.invariant-loop-next
-invariant-loop-next l = HasCounted l.board l.group l.next l.count l.fn.hand l.hand
-
-abbrev pub decreases-loop-next : goal.decreases-loop-next
-decreases-loop-next l = (limits (opening_of l.board)).records - l.count
+abbrev pub invariant-loop-number : goal.invariant-loop-number
+invariant-loop-number l = HasCountedLanes l.board l.group l.number l.count l.fn.hand l.hand

@@ -18,8 +18,8 @@ link_word-link-requires c =
 
 pub store_private-requires-clause-fits : goal.store_private-requires-clause-fits
 store_private-requires-clause-fits c =
-    fits_each (limits (opening_of c.args.board.now)) _ c.args.next (row_ahead_of c.args.board.now c.args.hand.now c.args.group _ c.args.next
-    c.requires.search.call.of c.requires.may.between.1)
+    fits_each (limits (opening_of c.args.board.now)) _ c.args.next (row_ahead_of c.args.board.now c.args.hand.now c.args.lane.group _
+    c.args.next c.requires.search.call.of c.requires.may.between.2)
 
 pub swap_link-requires-clause-may : goal.swap_link-requires-clause-may
 swap_link-requires-clause-may c =
@@ -30,9 +30,9 @@ swap_link-requires-clause-may c =
     let next : ℕ = c.args.next in
     let stores = stores_link b h n place _ _ next c.place.ensures c.link_word-link.ensures
     c.store_private.ensures.step in
-    subst (λ (r : PrivateRow). MayInsertRow (opening_of b) n.number c.args.group
-    (place_of_private r) c.args.before next (known n)) (sym c.store_private.ensures.row)
-    (may_insert_row b c.args.group place c.args.before next h n c.requires.search c.requires.may
+    subst (λ (r : PrivateRow). MayInsertRow (opening_of b) n.number c.args.lane.group
+    c.args.lane.number (place_of_private r) c.args.before next (known n)) (sym c.store_private.ensures.row)
+    (may_insert_row b c.args.lane.group c.args.lane.number place c.args.before next h n c.requires.search c.requires.may
     stores)
 
 pub returns-clause-search : goal.returns-clause-search
@@ -45,9 +45,10 @@ returns-clause-search c =
     let next : ℕ = c.args.next in
     let stores = stores_link b h n place _ _ next c.place.ensures c.link_word-link.ensures
     c.store_private.ensures.step in
-    answer_search b c.args.group place c.args.before next h n k c.requires.search c.requires.may
+    answer_search b c.args.lane.group c.args.lane.number place c.args.before next h n k c.requires.search c.requires.may
     stores c.swap_link.result
-    (subst (λ (r : PrivateRow). Links b n c.args.group (place_of_private r) c.args.before next
+    (subst (λ (r : PrivateRow). Links b n c.args.lane.group c.args.lane.number
+    (place_of_private r) c.args.before next
     c.swap_link.result k) c.store_private.ensures.row c.swap_link.ensures)
 
 pub returns-clause-steps : goal.returns-clause-steps
@@ -60,9 +61,10 @@ returns-clause-steps c =
     let next : ℕ = c.args.next in
     let stores = stores_link b h n place _ _ next c.place.ensures c.link_word-link.ensures
     c.store_private.ensures.step in
-    answer_steps b c.args.group place c.args.before next h n k c.requires.search c.requires.may
+    answer_steps b c.args.lane.group c.args.lane.number place c.args.before next h n k c.requires.search c.requires.may
     stores c.swap_link.result
-    (subst (λ (r : PrivateRow). Links b n c.args.group (place_of_private r) c.args.before next
+    (subst (λ (r : PrivateRow). Links b n c.args.lane.group c.args.lane.number
+    (place_of_private r) c.args.before next
     c.swap_link.result k) c.store_private.ensures.row c.swap_link.ensures)
 
 pub returns-clause-tells : goal.returns-clause-tells
@@ -75,7 +77,8 @@ returns-clause-tells c =
     let next : ℕ = c.args.next in
     let stores = stores_link b h n place _ _ next c.place.ensures c.link_word-link.ensures
     c.store_private.ensures.step in
-    answer_tells b c.args.group place c.args.before next h n k c.requires.search c.requires.may
+    answer_tells b c.args.lane.group c.args.lane.number place c.args.before next h n k c.requires.search c.requires.may
     stores c.swap_link.result
-    (subst (λ (r : PrivateRow). Links b n c.args.group (place_of_private r) c.args.before next
+    (subst (λ (r : PrivateRow). Links b n c.args.lane.group c.args.lane.number
+    (place_of_private r) c.args.before next
     c.swap_link.result k) c.store_private.ensures.row c.swap_link.ensures)

@@ -3,16 +3,17 @@ use Rattle.index_machine.specs.declared.events.Action.TheVariants.{LoadRoot}
 use Rattle.index_rule.specs.Hands.{known, opening_of}
 use Rattle.index_rule.proofs.Stepping.{built_known}
 use Rattle.delta_buffer.proofs.Following.{keepers_follow}
-use Rattle.index_tests.proofs.Linking.{group_of_zero}
+use Rattle.index_tests.proofs.Groups.{of_group_zero}
 use Rattle.index_tests.proofs.buffers.count_of_keeper.Goals as goal
 
 pub count-requires : goal.count-requires
 count-requires c =
     let b = c.args.board.now in
+    let o = opening_of b in
     let h = c.args.keeper.now in
     let k = c.load_root.new.hand in
     let loads = c.load_root.ensures in
-    let two = c.requires.groups in
+    let least = o.layout.kept.least_groups in
     let built = built_known b h k (LoadRoot c.load_root.result) c.requires.hand loads in
     keepers_follow b k 0 loads.of (loads.number ∙ c.requires.number) (omega arith)
-    (inl (inl (0, group_of_zero (opening_of b) (known k) built)))
+    (inl (inl (0, of_group_zero o 0 (known k) built (omega arith))))

@@ -7,8 +7,8 @@ use Rattle.index_machine.specs.Words.{limits}
 use Rattle.map_model.specs.Map.{Map}
 use Rattle.word_layout.specs.declared.headers.HeaderWord.TheVariants as header
 use Rattle.word_layout.specs.Headers.{header_word}
-use Rattle.opened_table.specs.Laying.{FillsArray, LinksRows}
-use Rattle.opened_table.specs.Laying.{StandsFor}
+use Rattle.index_machine.specs.OpeningRows.{keys_in}
+use Rattle.opened_table.specs.Laying.{FillsArray, LaysHeader, LinksRows, StandsBare}
 use Rattle.opened_table.proofs.Laid.{laid, without_rows}
 use Rattle.opened_table.proofs.LaidRows.{laid_rows}
 use Rattle.opened_table.proofs.laying.laid_words.Goals as goal
@@ -30,19 +30,14 @@ returns c =
     let to = c.from.ensures ∙ c.row.ensures.address in
     let linked : List ℕ = c.link_rows.new.words.items in
     let new : List ℕ = c.fill_array.new.words.items in
-    let empty : StandsFor (without_rows o) linked [] =
+    let headed : List ℕ = c.lay_header.new.words.items in
+    let bare : StandsBare (without_rows o) linked =
     laid o zeros linked wide blank
     (subst
     (λ (z : ℕ × ℕ × ℕ). LinksRows l l.records (slice_set (slice_set zeros z.0 2) z.1 z.2) linked)
     (λ j. (c.root.ensures.named j, c.free_head.ensures.named j, to j))
     c.link_rows.ensures)
     in
-    let at : c.header.result ≡ address_of l (Header 0 header.Size) =
-    c.header.ensures.named
-    ∙ ap (λ (i : ℕ). address_of l (Header 0 (header_word i))) c.number.ensures
-    in
-    laid_rows o linked new empty
-    (subst
-    (λ (z : ℕ × Map). FillsArray l z.1 (length z.1) (slice_set linked z.0 (length z.1)) new)
-    (λ j. (at j, c.requires j))
-    c.fill_array.ensures)
+    laid_rows o linked headed new bare
+    (subst (λ (z : Map). LaysHeader l (keys_in z) linked headed) c.requires c.lay_header.ensures)
+    (subst (λ (z : Map). FillsArray l z (length z) headed new) c.requires c.fill_array.ensures)

@@ -19,40 +19,42 @@ pub miss-requires : goal.miss-requires
 miss-requires c =
     let b = c.args.board.now in
     let h = c.args.hand.now in
-    let g : ℕ = c.locate-group.result in
+    let lane = c.locate-lane.result in
+    let g : ℕ = lane.group in
     let key : ℕ = c.args.key in
     let most : key ≤ greatest_key = omega arith in
     let f = c.find.ensures in
     subst (λ (z : Hand). HasMissed b z c.find.new.hand g key) (sym c.of-start.ensures)
-    (missed_gap b h c.locate-group.new.hand c.find.new.hand g key _ _
-    c.requires.call.of c.requires.empty most c.locate-group.ensures.comes f.steps f.search f.log
+    (missed_gap b h c.locate-lane.new.hand c.find.new.hand key lane _ _
+    c.requires.call.of c.requires.empty most c.locate-lane.ensures.comes f.steps f.search f.log
     c.in_default.ensures.finds)
 
 pub read-requires : goal.read-requires
 read-requires c =
-    ready_row c.args.board.now c.locate-group.result c.args.key c.in-Row.place c.find.new.hand
+    ready_row c.args.board.now c.locate-lane.result.group c.args.key c.in-Row.place c.find.new.hand
     c.find.ensures.search c.in-Row.ensures.finds
 
 pub miss-requires-in-Gone : goal.miss-requires-in-Gone
 miss-requires-in-Gone c =
     let b = c.args.board.now in
     let h = c.args.hand.now in
-    let l = c.locate-group.new.hand in
+    let l = c.locate-lane.new.hand in
     let n = c.find.new.hand in
     let k = c.read.new.hand in
-    let g : ℕ = c.locate-group.result in
+    let lane = c.locate-lane.result in
+    let g : ℕ = lane.group in
     let key : ℕ = c.args.key in
     let most : key ≤ greatest_key = omega arith in
-    let comes = c.locate-group.ensures.comes in
-    let il = in_comes b h l g c.requires.call.of comes in
+    let comes = c.locate-lane.ensures.comes in
+    let il = in_comes b h l key lane c.requires.call.of comes in
     let w = c.find.ensures.steps in
-    let i = in_walk b g h l w.0 n w.1 w.2 il in
+    let i = in_walk b g lane.number h l w.0 n w.1 w.2 il in
     let s = c.in-Gone.ensures.steps in
     subst (λ (z : Hand). HasMissed b z k g key) (sym c.of-start.ensures)
     (missed_stone b h n g key c.in-Row.place i c.find.ensures.search c.in-Row.ensures.finds k s.0 s.1
     s.2 c.requires.call.of c.requires.empty
     (c.read.ensures.log ∙ (c.find.ensures.log ∙ comes.no_entry))
-    (group_reached b h l n g key comes il i most) c.in-Gone.ensures.tells)
+    (group_reached b h l n key lane comes il i most) c.in-Gone.ensures.tells)
 
 pub returns-in-Gone-clause-tells : goal.returns-in-Gone-clause-tells
 returns-in-Gone-clause-tells c =
@@ -66,25 +68,29 @@ pub returns-in_default-clause-exchanges : goal.returns-in_default-clause-exchang
 returns-in_default-clause-exchanges c =
     let b = c.args.board.now in
     let h = c.args.hand.now in
-    let l = c.locate-group.new.hand in
+    let l = c.locate-lane.new.hand in
     let n = c.find.new.hand in
-    let g : ℕ = c.locate-group.result in
-    let comes = c.locate-group.ensures.comes in
+    let lane = c.locate-lane.result in
+    let g : ℕ = lane.group in
+    let key : ℕ = c.args.key in
+    let comes = c.locate-lane.ensures.comes in
     let f = c.find.ensures in
-    few_behind no_exchange h n c.miss.new.hand (none_before b h l n g c.requires.call.of comes f.steps)
+    few_behind no_exchange h n c.miss.new.hand (none_before b h l n key lane c.requires.call.of comes f.steps)
     c.miss.ensures.exchanges
 
 pub returns-in-Live-clause-exchanges : goal.returns-in-Live-clause-exchanges
 returns-in-Live-clause-exchanges c =
     let b = c.args.board.now in
     let h = c.args.hand.now in
-    let l = c.locate-group.new.hand in
+    let l = c.locate-lane.new.hand in
     let n = c.find.new.hand in
-    let g : ℕ = c.locate-group.result in
-    let comes = c.locate-group.ensures.comes in
+    let lane = c.locate-lane.result in
+    let g : ℕ = lane.group in
+    let key : ℕ = c.args.key in
+    let comes = c.locate-lane.ensures.comes in
     let f = c.find.ensures in
     few_behind no_exchange h c.read.new.hand c.look.new.hand
-    (none_in_read b h l n g c.in-Row.place c.read.result c.read.new.hand c.requires.call.of comes
+    (none_in_read b h l n key lane c.in-Row.place c.read.result c.read.new.hand c.requires.call.of comes
     f.steps f.search.call.of c.read.ensures.steps)
     c.look.ensures.exchanges
 
@@ -92,13 +98,15 @@ pub returns-in-Gone-clause-exchanges : goal.returns-in-Gone-clause-exchanges
 returns-in-Gone-clause-exchanges c =
     let b = c.args.board.now in
     let h = c.args.hand.now in
-    let l = c.locate-group.new.hand in
+    let l = c.locate-lane.new.hand in
     let n = c.find.new.hand in
-    let g : ℕ = c.locate-group.result in
-    let comes = c.locate-group.ensures.comes in
+    let lane = c.locate-lane.result in
+    let g : ℕ = lane.group in
+    let key : ℕ = c.args.key in
+    let comes = c.locate-lane.ensures.comes in
     let f = c.find.ensures in
     few_behind no_exchange h c.read.new.hand c.miss-in-Gone.new.hand
-    (none_in_read b h l n g c.in-Row.place c.read.result c.read.new.hand c.requires.call.of comes
+    (none_in_read b h l n key lane c.in-Row.place c.read.result c.read.new.hand c.requires.call.of comes
     f.steps f.search.call.of c.read.ensures.steps)
     c.miss-in-Gone.ensures.exchanges
 
@@ -106,14 +114,15 @@ pub look-requires : goal.look-requires
 look-requires c =
     let b = c.args.board.now in
     let h = c.args.hand.now in
-    let l = c.locate-group.new.hand in
+    let l = c.locate-lane.new.hand in
     let n = c.find.new.hand in
     let k = c.read.new.hand in
-    let g : ℕ = c.locate-group.result in
+    let lane = c.locate-lane.result in
+    let g : ℕ = lane.group in
     let key : ℕ = c.args.key in
-    let comes = c.locate-group.ensures.comes in
+    let comes = c.locate-lane.ensures.comes in
     let f = c.find.ensures in
-    let i = in_walk b g h l f.steps.0 n f.steps.1 f.steps.2 (in_comes b h l g c.requires.call.of comes) in
+    let i = in_walk b g lane.number h l f.steps.0 n f.steps.1 f.steps.2 (in_comes b h l key lane c.requires.call.of comes) in
     let row = c.in-Row.ensures.finds in
     let s = c.in-Live.ensures.steps in
     let ik = in_again b h n g key c.in-Row.place i f.search row s.2 s.0 s.1 s.3 s.5.0 k c.in-Live.value
@@ -132,14 +141,15 @@ pub returns-in-Locked : goal.returns-in-Locked
 returns-in-Locked c =
     let b = c.args.board.now in
     let h = c.args.hand.now in
-    let l = c.locate-group.new.hand in
+    let l = c.locate-lane.new.hand in
     let n = c.find.new.hand in
     let k = c.read.new.hand in
-    let g : ℕ = c.locate-group.result in
+    let lane = c.locate-lane.result in
+    let g : ℕ = lane.group in
     let key : ℕ = c.args.key in
-    let comes = c.locate-group.ensures.comes in
+    let comes = c.locate-lane.ensures.comes in
     let f = c.find.ensures in
-    let i = in_walk b g h l f.steps.0 n f.steps.1 f.steps.2 (in_comes b h l g c.requires.call.of comes) in
+    let i = in_walk b g lane.number h l f.steps.0 n f.steps.1 f.steps.2 (in_comes b h l key lane c.requires.call.of comes) in
     let row = c.in-Row.ensures.finds in
     let s = c.in-Locked.ensures.steps in
     let at : ℕ = c.in-Locked.place in
@@ -150,7 +160,7 @@ returns-in-Locked c =
       number = ik.number;
       section = ik.section;
       rows = ik.rows;
-      exchanges = none_in_read b h l n g c.in-Row.place c.read.result k c.requires.call.of comes f.steps
+      exchanges = none_in_read b h l n key lane c.in-Row.place c.read.result k c.requires.call.of comes f.steps
           f.search.call.of c.read.ensures.steps;
       tells = (
         c.read.ensures.log ∙ (f.log ∙ comes.no_entry),
@@ -162,14 +172,15 @@ pub returns : goal.returns
 returns c =
     let b = c.args.board.now in
     let h = c.args.hand.now in
-    let l = c.locate-group.new.hand in
+    let l = c.locate-lane.new.hand in
     let n = c.find.new.hand in
     let k = c.read.new.hand in
-    let g : ℕ = c.locate-group.result in
+    let lane = c.locate-lane.result in
+    let g : ℕ = lane.group in
     let key : ℕ = c.args.key in
-    let comes = c.locate-group.ensures.comes in
+    let comes = c.locate-lane.ensures.comes in
     let f = c.find.ensures in
-    let i = in_walk b g h l f.steps.0 n f.steps.1 f.steps.2 (in_comes b h l g c.requires.call.of comes) in
+    let i = in_walk b g lane.number h l f.steps.0 n f.steps.1 f.steps.2 (in_comes b h l key lane c.requires.call.of comes) in
     let row = c.in-Row.ensures.finds in
     let s = c.in-Changed.ensures.steps in
     let at : ℕ = c.in-Changed.place in
@@ -182,7 +193,7 @@ returns c =
       number = ik.number;
       section = ik.section;
       rows = ik.rows;
-      exchanges = none_in_read b h l n g c.in-Row.place c.read.result k c.requires.call.of comes f.steps
+      exchanges = none_in_read b h l n key lane c.in-Row.place c.read.result k c.requires.call.of comes f.steps
           f.search.call.of c.read.ensures.steps;
       tells = (
         c.read.ensures.log ∙ (f.log ∙ comes.no_entry),

@@ -3,7 +3,9 @@ use Rattle.std.proofs.Common.{◌∙◌, subst, arith}
 use Rattle.map_model.specs.declared.entries.Change.TheVariants.{Put}
 use Rattle.index_machine.specs.declared.events.Action.TheVariants.{FailLink, LinkRow, LoadPhase}
 use Rattle.index_machine.specs.Rows.{Holds, InBuffer, role, role_key}
+use Rattle.index_machine.specs.Lanes.{HasLane}
 use Rattle.index_machine.specs.Words.{link_behind}
+use Rattle.machine_buffers.proofs.BegunLanes.{cuts_rise}
 use Rattle.index_rule.specs.declared.rows.PrivateRow.{PrivateRow}
 use Rattle.tried_calls.specs.declared.tried.Tried.{Tried}
 use Rattle.index_rule.specs.Hands.{known, opening_of}
@@ -26,13 +28,13 @@ use Rattle.point_calls.proofs.linking.link_new.Goals as goal
 
 pub load_phase-word-requires-clause-may : goal.load_phase-word-requires-clause-may
 load_phase-word-requires-clause-may c =
-    sees_phase c.args.board.now c.args.start.now.value c.args.hand.now c.args.gap.group c.args.gap.key
+    sees_phase c.args.board.now c.args.start.now.value c.args.hand.now c.args.gap.lane.group c.args.gap.key
     c.requires.found.group_of
 
 pub own_row-requires-clause-spare : goal.own_row-requires-clause-spare
 own_row-requires-clause-spare c =
     spare_on c.args.board.now c.args.hand.now c.load_phase-word.new.hand
-    (LoadPhase c.args.gap.group c.load_phase-word.result) c.requires.found.group_of.search.call.of
+    (LoadPhase c.args.gap.lane.group c.load_phase-word.result) c.requires.found.group_of.search.call.of
     c.load_phase-word.ensures tt c.args.spare.now c.requires.spare
 
 pub own_row-requires-clause-may : goal.own_row-requires-clause-may
@@ -45,7 +47,7 @@ own_row-requires-clause-may c =
 pub returns-then-word : goal.returns-then-word
 returns-then-word c =
     absurd (c.if-word.true (is_open c.args.board.now c.args.start.now.value c.args.hand.now
-    c.load_phase-word.new.hand c.args.gap.group c.args.gap.key c.load_phase-word.result
+    c.load_phase-word.new.hand c.args.gap.lane.group c.args.gap.key c.load_phase-word.result
     c.requires.found.group_of c.load_phase-word.ensures ∙ sym c.word.ensures))
 
 pub returns-in-Err-clause-exchanges : goal.returns-in-Err-clause-exchanges
@@ -53,7 +55,7 @@ returns-in-Err-clause-exchanges c =
     let h = c.args.hand.now in
     let n = c.load_phase-word.new.hand in
     head_makes_two h n c.own_row.new.hand
-    (none_by c.args.board.now h (LoadPhase c.args.gap.group c.load_phase-word.result) n
+    (none_by c.args.board.now h (LoadPhase c.args.gap.lane.group c.load_phase-word.result) n
     c.requires.found.group_of.search.call.of c.load_phase-word.ensures refl refl refl)
     c.own_row.ensures.exchanges
 
@@ -75,9 +77,21 @@ insert-requires-clause-may c =
     c.own_row.ensures.may in
     subst
     (λ (z : PrivateRow).
-    CanInsert (opening_of b) k.number gap.group (place_of_private z) gap.before gap.next (known k))
+    CanInsert (opening_of b) k.number gap.lane.group gap.lane.number (place_of_private z) gap.before gap.next (known k))
     (sym c.fill.ensures.row)
     (can_insert b h k gap place c.requires.empty may filled.held filled.key_word filled.state_word)
+
+pub link_address-link-requires-clause-lane : goal.link_address-link-requires-clause-lane
+link_address-link-requires-clause-lane c =
+    let b = c.args.board.now in
+    let k = c.fill.new.hand in
+    let gap = c.args.gap in
+    let may = may_filled b c.args.start.now.value c.own_row.new.hand k gap
+    (place_of_private c.in-Ok.row) c.args.value c.in-Ok.ensures.answer c.fill.ensures.filled
+    c.own_row.ensures.may in
+    let is = may.between.0.is_lane in
+    let few = (cuts_rise (opening_of b) (known k) may.call.follows.valid gap.lane.group).few in
+    omega arith
 
 pub link_address-link-requires-clause-place : goal.link_address-link-requires-clause-place
 link_address-link-requires-clause-place c =
@@ -88,11 +102,11 @@ link_address-link-requires-clause-place c =
     (place_of_private c.in-Ok.row) c.args.value c.in-Ok.ensures.answer c.fill.ensures.filled
     c.own_row.ensures.may in
     ⊎_elim (λ (z : gap.before ≡ 0). below_some gap.before z)
-    (λ (z : (j : ℕ) × (role (opening_of b) gap.before (known k) ≡ InBuffer gap.group j)
-    × (j < gap.key)).
+    (λ (z : (j : ℕ) × (role (opening_of b) gap.before (known k) ≡ InBuffer gap.lane.group j)
+    × HasLane (opening_of b) gap.lane.group gap.lane.number j (known k) × (j < gap.key)).
     place_below (opening_of b) gap.before
     (keyed_place (opening_of b) (known k) may.call.follows.valid gap.before (z.0, ap role_key z.1)))
-    may.between.0
+    may.between.1
   where
     below_some : (n : ℕ) → n ≡ 0 → n < 2 ^ 28
     below_some n is = omega arith
@@ -116,21 +130,21 @@ returns-in-Done c =
     let held : Holds (opening_of b) k.number row (known k) =
     subst (λ (z : ℕ). Holds (opening_of b) k.number z (known k)) (sym is) filled.held in
     let steps = c.in-Done.ensures.steps in
-    let links = LinkRow gap.group row (change_of b k row) gap.before gap.next in
+    let links = LinkRow gap.lane.group gap.lane.number row (change_of b k row) gap.before gap.next in
     let at = may_before b h k gap row links e may held steps in
     record {
       call = c.insert.ensures.search.call;
       number = search rules;
       section = section_behind b h k gap row links e may held steps tt;
       exchanges = row_makes_two first n r k e
-          (none_by b first (LoadPhase gap.group c.load_phase-word.result) n
+          (none_by b first (LoadPhase gap.lane.group c.load_phase-word.result) n
           c.requires.found.group_of.search.call.of c.load_phase-word.ensures refl refl refl)
           c.own_row.ensures.exchanges
           (fill_makes_none b r place gap.key c.args.value k c.own_row.ensures.may.search.call.of filled)
-          (insert_makes_one b k gap.group row gap.before gap.next c.insert.result e c.fill.ensures.hand
+          (insert_makes_one b k gap.lane.group gap.lane.number row gap.before gap.next c.insert.result e c.fill.ensures.hand
           c.insert.ensures.steps);
       spare = subst (λ (z : Option PrivateRow). HasSpare b e z) (sym c.own_row.ensures.gone)
-          (holds_none_linked b steps.0 e gap.group row gap.before gap.next (change_of b k row)
+          (holds_none_linked b steps.0 e gap.lane.group gap.lane.number row gap.before gap.next (change_of b k row)
           at.search.call.of at.search.call.reading.caller steps.2);
       tells = adds_there b h k e gap (change_of b k row) (Put h.number gap.key c.args.value) None may
           (ap (change_of b k) is
@@ -159,29 +173,30 @@ returns-in-Raced c =
     subst (λ (z : PrivateRow). Holds (opening_of b) k.number (place_of_private z) (known k))
     (sym c.fill.ensures.row) filled.held in
     let s = c.in-Raced.ensures.steps in
-    let fails = FailLink gap.group gap.before gap.next c.in-Raced.found in
+    let fails = FailLink gap.lane.group gap.lane.number gap.before gap.next c.in-Raced.found in
     let at = may_before b h k gap row fails e may held s.2 in
     record {
       call = c.insert.ensures.search.call;
       number = search rules;
       section = section_behind b h k gap row fails e may held s.2 tt;
       exchanges = row_makes_two first n r k e
-          (none_by b first (LoadPhase gap.group c.load_phase-word.result) n
+          (none_by b first (LoadPhase gap.lane.group c.load_phase-word.result) n
           c.requires.found.group_of.search.call.of c.load_phase-word.ensures refl refl refl)
           c.own_row.ensures.exchanges
           (fill_makes_none b r place gap.key c.args.value k c.own_row.ensures.may.search.call.of filled)
-          (insert_makes_one b k gap.group row gap.before gap.next c.insert.result e c.fill.ensures.hand
+          (insert_makes_one b k gap.lane.group gap.lane.number row gap.before gap.next c.insert.result e c.fill.ensures.hand
           c.insert.ensures.steps);
       spare = search rules;
       tells = subst (λ (z : Tried (Option ℕ)). PutTells b gap.key c.args.value h z e)
           (sym c.raced.ensures) (
             c.in-Raced.ensures.tells.0 ∙ may.call.so_far.no_entry,
             inr (inl (record {
-              group = gap.group;
+              group = gap.lane.group;
+              lane = gap.lane.number;
               before = gap.before;
               is_address = c.link_address-link.ensures;
-              steps = made_behind b h s.2.0 e (load_of_link gap.group gap.before gap.next) fails
-                  (link_behind gap.group gap.before) at.call.so_far.number at.search.call.of at.loaded
+              steps = made_behind b h s.2.0 e (load_of_link gap.lane.group gap.lane.number gap.before gap.next) fails
+                  (link_behind gap.lane.group gap.lane.number gap.before) at.call.so_far.number at.search.call.of at.loaded
                   s.2.2;
               differ = s.1;
               held = (row, c.in-Raced.ensures.tells.1.filled.held);

@@ -26,16 +26,29 @@ returns-in-Row-clause-may c =
     let loads : Makes b n (LoadFree x) one =
     subst (λ (z : Hand). Makes b z (LoadFree x) one) all.1.1.1 all.1.1.2 in
     let may1 = may_on b h n one gap (LoadFree x)
-    (record { none = tt; free = λ z. z; keeps = λ o t log. refl; elsewhere = tt })
+    (record {
+      none = tt;
+      free = λ z. z;
+      keeps = λ o t log. refl;
+      elsewhere = tt;
+      unbegun = λ g z. let bad = z.3 in cc;
+    })
     loads c.requires.may in
     let may2 = may_on b h one last gap (LoadFreeLink x s.1.0)
-    (record { none = tt; free = λ z. z; keeps = λ o t log. refl; elsewhere = tt }) all.1.2 may1 in
+    (record {
+      none = tt;
+      free = λ z. z;
+      keeps = λ o t log. refl;
+      elsewhere = tt;
+      unbegun = λ g z. let bad = z.3 in cc;
+    }) all.1.2 may1 in
     may_on b h last k gap (PopFree x s.1.0)
     (record {
       none = tt;
       free = λ z. z;
       keeps = λ o t log. refl;
-      elsewhere = head_elsewhere gap.group gap.before;
+      elsewhere = head_elsewhere gap.lane.group gap.lane.number gap.before;
+      unbegun = λ g z. let bad = z.3 in cc;
     }) all.2 may2
 
 pub returns-in-Empty-clause-may : goal.returns-in-Empty-clause-may
@@ -48,7 +61,13 @@ returns-in-Empty-clause-may c =
     let s = c.in-Empty.ensures.steps in
     let loads : Makes b n (LoadFree 0) k = subst (λ (z : Hand). Makes b z (LoadFree 0) k) s.1 s.2 in
     may_on b h n k gap (LoadFree 0)
-    (record { none = tt; free = λ z. z; keeps = λ o t log. refl; elsewhere = tt })
+    (record {
+      none = tt;
+      free = λ z. z;
+      keeps = λ o t log. refl;
+      elsewhere = tt;
+      unbegun = λ g z. let bad = z.3 in cc;
+    })
     loads c.requires.may
 
 pub returns-in-Empty-clause-answer : goal.returns-in-Empty-clause-answer
@@ -61,7 +80,13 @@ returns-in-Empty-clause-answer c =
     let s = c.in-Empty.ensures.steps in
     let loads : Makes b n (LoadFree 0) k = subst (λ (z : Hand). Makes b z (LoadFree 0) k) s.1 s.2 in
     let may = may_on b h n k gap (LoadFree 0)
-    (record { none = tt; free = λ z. z; keeps = λ o t log. refl; elsewhere = tt })
+    (record {
+      none = tt;
+      free = λ z. z;
+      keeps = λ o t log. refl;
+      elsewhere = tt;
+      unbegun = λ g z. let bad = z.3 in cc;
+    })
     loads c.requires.may in (
       sym c.take.ensures.value ∙ c.in-None.is,
       c.in-Empty.ensures.holds,
@@ -87,12 +112,30 @@ returns-in-Raced-clause-may c =
     let loads : Makes b n (LoadFree x) one =
     subst (λ (z : Hand). Makes b z (LoadFree x) one) all.1.1.1 all.1.1.2 in
     let may1 = may_on b h n one gap (LoadFree x)
-    (record { none = tt; free = λ z. z; keeps = λ o t log. refl; elsewhere = tt })
+    (record {
+      none = tt;
+      free = λ z. z;
+      keeps = λ o t log. refl;
+      elsewhere = tt;
+      unbegun = λ g z. let bad = z.3 in cc;
+    })
     loads c.requires.may in
     let may2 = may_on b h one last gap (LoadFreeLink x s.2.0)
-    (record { none = tt; free = λ z. z; keeps = λ o t log. refl; elsewhere = tt }) all.1.2 may1 in
+    (record {
+      none = tt;
+      free = λ z. z;
+      keeps = λ o t log. refl;
+      elsewhere = tt;
+      unbegun = λ g z. let bad = z.3 in cc;
+    }) all.1.2 may1 in
     may_on b h last k gap (FailPop x c.in-Raced.found)
-    (record { none = tt; free = λ z. z; keeps = λ o t log. refl; elsewhere = tt }) all.2 may2
+    (record {
+      none = tt;
+      free = λ z. z;
+      keeps = λ o t log. refl;
+      elsewhere = tt;
+      unbegun = λ g z. let bad = z.3 in cc;
+    }) all.2 may2
 
 pub returns-in-Raced-clause-answer : goal.returns-in-Raced-clause-answer
 returns-in-Raced-clause-answer c =
@@ -109,10 +152,22 @@ returns-in-Raced-clause-answer c =
     let loads : Makes b n (LoadFree x) one =
     subst (λ (z : Hand). Makes b z (LoadFree x) one) all.1.1.1 all.1.1.2 in
     let may1 = may_on b h n one gap (LoadFree x)
-    (record { none = tt; free = λ z. z; keeps = λ o t log. refl; elsewhere = tt })
+    (record {
+      none = tt;
+      free = λ z. z;
+      keeps = λ o t log. refl;
+      elsewhere = tt;
+      unbegun = λ g z. let bad = z.3 in cc;
+    })
     loads c.requires.may in
     let may2 = may_on b h one last gap (LoadFreeLink x s.2.0)
-    (record { none = tt; free = λ z. z; keeps = λ o t log. refl; elsewhere = tt }) all.1.2 may1 in (
+    (record {
+      none = tt;
+      free = λ z. z;
+      keeps = λ o t log. refl;
+      elsewhere = tt;
+      unbegun = λ g z. let bad = z.3 in cc;
+    }) all.1.2 may1 in (
       sym c.take.ensures.value ∙ c.in-None.is,
       c.in-Raced.ensures.holds,
       record {

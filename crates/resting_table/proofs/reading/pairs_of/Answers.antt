@@ -18,26 +18,24 @@ overflow_cast-next-2 c =
     let l = c.args.layout.now in
     let ws = c.args.words.now in
     let r = c.requires.rest in
-    let at = c.header-head.ensures.named
-    ∙ ap (λ (n : ℕ). address_of (limits_of l) (Header 0 (header_word n))) c.number.ensures in
-    let small = next_small l ws r.0 r.1 r.2 0 (slice_index ws c.header-head.result) []
-    (reads_none l ws r.0 r.1 r.2 (slice_index ws c.header-head.result)
-    (head_is l ws r.0 r.1 r.2 c.header-head.result at)) in
+    let at = c.lane_head-head.ensures.named in
+    let small = next_small l ws r.0 r.1 r.2 0 (slice_index ws c.lane_head-head.result) []
+    (reads_none l ws r.0 r.1 r.2 (slice_index ws c.lane_head-head.result)
+    (head_is l ws r.0 r.1 r.2 c.lane_head-head.result at)) in
     omega arith
 
 pub loop-met-init : goal.loop-met-init
 loop-met-init c =
     let l = c.args.layout.now in
     let ws = c.args.words.now in
-    let at = c.header-head.ensures.named
-    ∙ ap (λ (n : ℕ). address_of (limits_of l) (Header 0 (header_word n))) c.number.ensures in
+    let at = c.lane_head-head.ensures.named in
     record {
       room = c.requires.room;
       reads = λ o t rest.
-          subst (λ (z : Map). Reads l ws o t rest 0 (slice_index ws c.header-head.result) z)
+          subst (λ (z : Map). Reads l ws o t rest 0 (slice_index ws c.lane_head-head.result) z)
           (sym c.requires.none)
-          (reads_none l ws o t rest (slice_index ws c.header-head.result)
-          (head_is l ws o t rest c.header-head.result at));
+          (reads_none l ws o t rest (slice_index ws c.lane_head-head.result)
+          (head_is l ws o t rest c.lane_head-head.result at));
     }
 
 pub state_word-requires : goal.state_word-requires

@@ -1,16 +1,9 @@
-use Rattle.std.proofs.Common.{rules}
-use Rattle.wire_commands.specs.Numbers.{IsNumber}
-use Rattle.wire_commands.proofs.ReadingLaws.{lacks_one_number, within_or_range}
+use Rattle.std.proofs.Common.{[], rules, arith}
+use Rattle.wire_commands.specs.Words.{HasWords}
+use Rattle.wire_commands.proofs.ReadingLaws.{has_first_number}
 use Rattle.wire_commands.proofs.reading.one_number.Goals as goal
-
-pub returns-then-not-is_number : goal.returns-then-not-is_number
-returns-then-not-is_number c =
-    lacks_one_number c.args.line.now c.in-Some.word.now c.args.limit c.in-Some.ensures
-    (λ is_number. absurd (cc (c.is_number.ensures.1 is_number)))
 
 pub returns : goal.returns
 returns c =
-    let is_number : IsNumber c.in-Some.word.now = search rules in
-    within_or_range c.args.line.now c.in-Some.word.now c.args.limit c.value_within.result
-    c.ok_or.result c.in-Some.ensures
-    is_number c.value_within.ensures c.ok_or.ensures.value
+    let none : HasWords c.in-Some.rest.now [] = search rules in
+    has_first_number c.args.line.now c.in-Some.rest.now c.in-Some.number c.args.limit c.in-Some.ensures none (omega arith)

@@ -1,30 +1,11 @@
-use Rattle.std.proofs.Common.{◌≡◌, rules}
-use Rattle.std.specs.Option.{ok_or, option_zip}
-use Rattle.wire_commands.specs.declared.request.Reason.TheVariants.{Range}
-use Rattle.wire_commands.specs.Numbers.{IsNumber}
-use Rattle.wire_commands.proofs.ReadingLaws.{lacks_two_numbers, both_within_or_range}
-use Rattle.wire_commands.proofs.reading.two_numbers.Goals.{then-not-is_number-via-then-not-is_number, then-not-is_number-via-else-not-is_number+then-not-is_number-2}
+use Rattle.std.proofs.Common.{[], rules}
+use Rattle.wire_commands.specs.Words.{HasWords}
+use Rattle.wire_commands.proofs.ReadingLaws.{has_first_numbers}
 use Rattle.wire_commands.proofs.reading.two_numbers.Goals as goal
-
-pub returns-then-not-is_number-clause-numbers : goal.returns-then-not-is_number-clause-numbers
-returns-then-not-is_number-clause-numbers c =
-    lacks_two_numbers c.args.line.now c.in-Some.first.now c.in-Some.second.now c.args.first_limit
-    c.args.second_limit
-    c.in-Some.ensures
-    (λ both. elim c.then-not-is_number.branch [
-      | then-not-is_number-via-then-not-is_number w ↦ absurd (cc (c.is_number.ensures.1 both.0))
-      | then-not-is_number-via-else-not-is_number+then-not-is_number-2 w ↦
-          absurd (cc (w.is_number-else-not-is_number.ensures.1 both.1))
-    ])
 
 pub returns-clause-numbers : goal.returns-clause-numbers
 returns-clause-numbers c =
-    let is_first : IsNumber c.in-Some.first.now = search rules in
-    let is_second : IsNumber c.in-Some.second.now = search rules in
-    let is : c.ok_or.result ≡ ok_or (option_zip c.value_within.result c.value_within-2.result)
-    Range = cc in
-    both_within_or_range c.args.line.now c.in-Some.first.now c.in-Some.second.now c.args.first_limit
-    c.args.second_limit
-    c.value_within.result c.value_within-2.result c.ok_or.result c.in-Some.ensures is_first
-    is_second
-    c.value_within.ensures c.value_within-2.ensures is
+    let none : HasWords c.in-Some-first_number.rest.now [] = search rules in
+    has_first_numbers c.args.line.now c.in-Some.more.now c.in-Some-first_number.rest.now c.in-Some.first
+    c.in-Some-first_number.second c.args.first_limit c.args.second_limit c.in-Some.ensures
+    c.in-Some-first_number.ensures none c.if-first-first_limit.true c.if-second-second_limit.true

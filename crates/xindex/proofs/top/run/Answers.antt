@@ -22,8 +22,8 @@ returns-in-Err-BadLimit-clause-limits_refusal g c = λ number first.
     let broken = rw c.in-Err-BadLimit.field-0-is at c.in-Err-BadLimit.ensures.refused in
     let same = one_first c.args.command.limits c.in-Err-BadLimit.number number broken first in
     let told = subst
-    (λ (n : ℕ). Refuses (limit_line n) BadLimits (g.K.Ends.state c.args.sink.now).written
-    (g.K.Ends.state c.refuse_limits.new.sink).written c.refuse_limits.result)
+    (λ (n : ℕ). Refuses (limit_line n) BadLimits (g.K.Ends.state c.args.sink.now)
+    (g.K.Ends.state c.refuse_limits.new.sink) c.refuse_limits.result)
     (c.in-Err-BadLimit.number-is ∙ same) c.refuse_limits.ensures.refusal in
     subst
     (λ (o : Outcome). OnlyRefuses (limit_line number) BadLimits

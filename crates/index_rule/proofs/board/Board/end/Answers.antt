@@ -3,7 +3,7 @@ use Rattle.std.specs.Prelude.{option_to_list}
 use Rattle.std.specs.Slots.{slots_items}
 use Rattle.index_rule.specs.declared.hand.Hand.{Hand}
 use Rattle.index_rule.specs.Hands.{opening_of}
-use Rattle.index_rule.specs.Ended.{AreOf, Leaves}
+use Rattle.index_rule.specs.Ended.{AreOf, LeavesInMemory}
 use Rattle.index_rule.proofs.Ending.{all_snoc, are_of, are_of_front, ended, includes_itself}
 use Rattle.index_rule.proofs.Ending.{popped_last, popped_of}
 use Rattle.index_rule.proofs.board.Board.end.Goals as goal
@@ -38,7 +38,8 @@ returns-clause-words c =
     let is = c.unwrap-seat.ensures in
     let of = popped_of b _ rest c.pop.result h c.requires.outside items is in
     let s = c.join_all.new.seat in
-    subst (λ (z : List Hand). Leaves (opening_of b) z (slots_items c.close_with.result.words))
+    subst
+    (λ (z : List Hand). LeavesInMemory (opening_of b) z (slots_items c.close_with.result.words))
     (sym (popped_last _ rest c.pop.result h items is))
     (ended (opening_of b) s.id s.me.0 (rest ++ h ∷ []) _ _ (c.join_all.ensures.opened ∙ of.opened)
     (all_snoc s.me.0 rest h c.join_all.ensures.joined

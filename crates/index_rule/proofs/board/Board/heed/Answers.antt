@@ -27,7 +27,7 @@ load-requires c =
     let s = c.join_seat.new.seat in
     let e = c.join_seat.ensures in (
       e.0 ∙ c.requires.hand.table,
-      inside b FreeHead _ tt c.free_head-address.ensures.named,
+      inside b FreeHead _ tt c.free_head_offset-offset.ensures,
       settles (opening_of b) _ s.id s.me _
           (took_opened b c.args.hand.now c.args.note s.me c.requires.hand e.2),
     )

@@ -11,7 +11,7 @@ pub load-requires : goal.load-requires
 load-requires c =
     let b = c.args.self.now in
     let h = c.args.hand.now in
-    let at = c.epoch-address.ensures.named in (
+    let at = c.epoch_offset-offset.ensures in (
       c.requires.hand.table,
       inside b (Epoch c.args.caller) _ c.requires.caller at,
       loads_epoch (opening_of b) _ h.seat.id h.seat.me h.number h.mine c.requires.hand.opened
@@ -23,7 +23,7 @@ returns c =
     let b = c.args.self.now in
     let h = c.args.hand.now in
     let w = Epoch c.args.caller in
-    let name = named_in b h w _ c.requires.hand c.requires.caller c.epoch-address.ensures.named in
+    let name = named_in b h w _ c.requires.hand c.requires.caller c.epoch_offset-offset.ensures in
     makes b h _ _ c.requires.hand c.load.ensures.0 refl
     (subst (λ (u : Word). Acts (view h) (epoch_load u c.load.result) c.load.new.seat.me.0) name
     c.load.ensures.2.acts)

@@ -8,7 +8,7 @@ pub load-requires : goal.load-requires
 load-requires c =
     let b = c.args.self.now in
     let h = c.args.hand.now in
-    let at = c.root-address.ensures.named in (
+    let at = c.root_offset-offset.ensures in (
       c.requires.hand.table,
       inside b Root _ tt at,
       loads_root (opening_of b) _ h.seat.id h.seat.me h.number h.mine c.requires.hand.opened _

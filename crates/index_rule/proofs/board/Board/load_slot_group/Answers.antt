@@ -5,17 +5,17 @@ use Rattle.word_layout.specs.Words.{Word, SlotGroup}
 use Rattle.index_rule.specs.Hands.{opening_of, view}
 use Rattle.index_rule.specs.Rule.{Acts}
 use Rattle.index_rule.specs.Steps.{slot_group_load}
-use Rattle.index_rule.proofs.StepKinds.{inside, at_word, named_in, makes}
+use Rattle.index_rule.proofs.StepKinds.{at_address, at_word, inside, makes, named_in}
 use Rattle.index_rule.proofs.RootSteps.{loads_slot_group, slot_by_hand}
 use Rattle.index_rule.proofs.board.Board.load_slot_group.Goals as goal
 
-pub slot_group-address-requires-clause-is_side : goal.slot_group-address-requires-clause-is_side
-slot_group-address-requires-clause-is_side c =
+pub slot_group-requires-clause-is_side : goal.slot_group-requires-clause-is_side
+slot_group-requires-clause-is_side c =
     (slot_by_hand c.args.self.now c.args.hand.now c.args.side c.args.slot c.requires.hand
     c.requires.may).0
 
-pub slot_group-address-requires-clause-is_slot : goal.slot_group-address-requires-clause-is_slot
-slot_group-address-requires-clause-is_slot c =
+pub slot_group-requires-clause-is_slot : goal.slot_group-requires-clause-is_slot
+slot_group-requires-clause-is_slot c =
     let b = c.args.self.now in
     subst (λ (l : Layout). c.args.slot < (limits_of l).slots) b.laid
     (slot_by_hand b c.args.hand.now c.args.side c.args.slot c.requires.hand c.requires.may).1
@@ -26,7 +26,7 @@ load-requires c =
     let h = c.args.hand.now in
     let w = SlotGroup c.args.side c.args.slot in
     let there = slot_by_hand b h c.args.side c.args.slot c.requires.hand c.requires.may in
-    let at = c.slot_group-address.ensures.named in (
+    let at = at_address b w _ _ c.cold_offset-offset.ensures c.slot_group.ensures.named in (
       c.requires.hand.table,
       inside b w _ there at,
       loads_slot_group (opening_of b) _ h.seat.id h.seat.me h.number h.mine
@@ -39,7 +39,8 @@ returns c =
     let h = c.args.hand.now in
     let w = SlotGroup c.args.side c.args.slot in
     let there = slot_by_hand b h c.args.side c.args.slot c.requires.hand c.requires.may in
-    let name = named_in b h w _ c.requires.hand there c.slot_group-address.ensures.named in
+    let at = at_address b w _ _ c.cold_offset-offset.ensures c.slot_group.ensures.named in
+    let name = named_in b h w _ c.requires.hand there at in
     makes b h _ _ c.requires.hand c.load.ensures.0 refl
     (subst (λ (u : Word). Acts (view h) (slot_group_load u c.load.result) c.load.new.seat.me.0) name
     c.load.ensures.2.acts)

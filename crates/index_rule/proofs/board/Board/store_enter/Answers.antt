@@ -8,7 +8,7 @@ pub store-requires : goal.store-requires
 store-requires c =
     let b = c.args.self.now in
     let h = c.args.hand.now in
-    let at = c.epoch-address.ensures.named in (
+    let at = c.epoch_offset-offset.ensures in (
       c.requires.hand.table,
       inside b (Epoch h.number) _ c.requires.may.caller at,
       stores_enter (opening_of b) _ h.seat.id h.seat.me h.number h.mine c.requires.hand.opened _ _

@@ -8,7 +8,7 @@ pub compare_exchange-found-requires : goal.compare_exchange-found-requires
 compare_exchange-found-requires c =
     let b = c.args.self.now in
     let h = c.args.hand.now in
-    let at = c.free_head-address.ensures.named in (
+    let at = c.free_head_offset-offset.ensures in (
       c.requires.hand.table,
       inside b FreeHead _ tt at,
       pushes (opening_of b) _ h.seat.id h.seat.me h.number h.mine c.requires.hand.opened _

@@ -15,12 +15,12 @@ load-requires g c =
     let h = c.args.hand.now in
     let start = c.args.start.now.value in (
       c.requires.hand.table,
-      inside b FreeHead _ tt c.free_head-address.ensures.named,
+      inside b FreeHead _ tt c.free_head_offset-offset.ensures,
       subst
           (λ (z : View × ℕ × Option ℕ). Allows (Kept (opening_of b)) b.words.shared.table_id.slots h.seat.id h.seat.me
-          c.free_head-address.result (λ n. n) (λ n x. TellsLook z.0 z.1 z.2 h.seat.me x))
+          c.free_head_offset-offset.result (λ n. n) (λ n x. TellsLook z.0 z.1 z.2 h.seat.me x))
           (λ i. (sym c.requires.start i, sym c.requires.key i, sym c.requires.found i))
-          (writes_look b start h c.args.key c.args.found _ c.free_head-address.result
+          (writes_look b start h c.args.key c.args.found _ c.free_head_offset-offset.result
           c.requires.hand c.requires.may),
     )
 

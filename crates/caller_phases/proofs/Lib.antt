@@ -1,0 +1,6 @@
+pub mod Cuts
+pub mod Replying
+pub mod Hearing
+pub mod Working
+pub mod Running
+pub mod Closed

@@ -1,0 +1,5 @@
+pub mod Calls
+pub mod Explained
+pub mod Workers
+pub mod Telling
+pub mod Ran

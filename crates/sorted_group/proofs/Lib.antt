@@ -1,0 +1,2 @@
+pub mod BufferLoads
+pub mod LaneChoice
