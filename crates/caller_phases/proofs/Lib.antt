@@ -4,3 +4,5 @@ pub mod Hearing
 pub mod Working
 pub mod Running
 pub mod Closed
+pub mod Sums
+pub mod Enough

@@ -9,5 +9,5 @@ mod phases;
 mod telling;
 mod workers;
 
-pub use laws::what_all_know_is_all;
+pub use laws::{enough_refuses_nothing, what_all_know_is_all};
 pub use phases::{Ran, run_phases};

@@ -3,4 +3,5 @@ pub mod FormTexts
 pub mod FormLaws
 pub mod GrammarLaws
 pub mod ReadingLaws
+pub mod RefusedForms
 pub mod SaturationLaws

@@ -6,7 +6,7 @@ use Rattle.clap.proofs.WalkLemmas.{first_value-rows}
 use Rattle.clap.specs.Walk.{Text}
 use Rattle.clap.specs.Words.{Row, first_of, first_value, matches_of, rows_of}
 use Rattle.clap.specs.declared.parser.matches.Found.{Found}
-use Rattle.command_line.specs.Asked.{HasLimitAt, IsLimit, number_at}
+use Rattle.command_line.specs.Asked.{HasNumberAt, IsNumberFrom, number_at}
 use Rattle.command_line.specs.Command.{AsksFor, IsCommand}
 use Rattle.command_line.specs.Grammar.{IsTaken, the_app}
 use Rattle.command_line.specs.declared.answers.Command.{Command}
@@ -19,14 +19,15 @@ pub row_text : (found : Found) (name : Text) (given : Option Text) → given ≡
 row_text found name given is = sym (first_value-rows found name) ∙ sym is
 
 -- no text, and so no number
-pub no_limit : (found : List Row) (name : Text) (number : Option ℕ) → first_of name found ≡ None → number ≡ None
-    → SomeIff number (HasLimitAt found name) (number_at found name)
-no_limit found name number absent none = rw (none, absent) (λ impossible. impossible)
+pub no_number : (least most : ℕ) (found : List Row) (name : Text) (number : Option ℕ) → first_of name found ≡ None
+    → number ≡ None → SomeIff number (HasNumberAt least most found name) (number_at found name)
+no_number least most found name number absent none = rw (none, absent) (λ impossible. impossible)
 
 -- the number of the text that was found
-pub limit_of_text : (found : List Row) (name text : Text) (number : Option ℕ) → first_of name found ≡ Some text
-    → SomeIff number (IsLimit text) (value_of text) → SomeIff number (HasLimitAt found name) (number_at found name)
-limit_of_text found name text number given is = rw given is
+pub number_of_text : (least most : ℕ) (found : List Row) (name text : Text) (number : Option ℕ)
+    → first_of name found ≡ Some text → SomeIff number (IsNumberFrom least most text) (value_of text)
+    → SomeIff number (HasNumberAt least most found name) (number_at found name)
+number_of_text least most found name text number given is = rw given is
 
 module _ (words : List Text) (found : List Row) (is : found ≡ matches_of the_app words) where
   pub found_command : (asked : Option Command) → IsTaken words → IfSome asked (AsksFor found)

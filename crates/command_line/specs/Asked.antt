@@ -1,5 +1,5 @@
 -- The numbers that words ask for, and the limits that are made of them.
-use Rattle.std.specs.Prelude.{◌↔◌, ◌≤◌, ℕ, List, IsSomeAnd, codes, min}
+use Rattle.std.specs.Prelude.{◌≡◌, ◌↔◌, ◌≤◌, ℕ, List, IsSomeAnd, codes, min}
 use Rattle.std.specs.List.{AllByRecursion}
 use Rattle.std.specs.Option.{option_map_or}
 use Rattle.clap.specs.Walk.{Text}
@@ -19,9 +19,13 @@ pub record IsNumberFrom (least most : ℕ) (text : List ℕ) : Type 0 where
 abbrev pub IsLimit : List ℕ → Type 0
 IsLimit = IsNumberFrom 0 18446744073709551615
 
+-- the text that was found for the option is a number in the bounds
+abbrev pub HasNumberAt : ℕ → ℕ → List Row → Text → Type 0
+HasNumberAt least most found name = IsSomeAnd (first_of name found) (IsNumberFrom least most)
+
 -- the text that was found for the option is a number of 64 bits
 abbrev pub HasLimitAt : List Row → Text → Type 0
-HasLimitAt found name = IsSomeAnd (first_of name found) IsLimit
+HasLimitAt = HasNumberAt 0 18446744073709551615
 
 -- the text that was found for each limit is a number of 64 bits
 abbrev pub HasLimits : List Row → Type 0
@@ -30,6 +34,11 @@ HasLimits found = AllByRecursion (λ option. HasLimitAt found option.0) limit_op
 -- the number that was found for the option
 abbrev pub number_at : List Row → Text → ℕ
 number_at found name = option_map_or value_of (first_of name found) 0
+
+-- the text that was found for the option is a number in the bounds, and this is its value
+abbrev pub IsNumberAt : ℕ → ℕ → List Row → Text → ℕ → Type 0
+IsNumberAt least most found name number =
+    HasNumberAt least most found name × (number ≡ number_at found name)
 
 -- the limits that are asked for, as plain numbers of any size
 abbrev pub limits_found : List Row → Limits

@@ -1,5 +1,5 @@
 -- Which words are taken, by clap's own meaning of one command.
-use Rattle.std.specs.Prelude.{◌≡◌, ◌∷◌, List, [], Some, true, fold, map, codes}
+use Rattle.std.specs.Prelude.{◌≡◌, ◌∷◌, ◌++◌, List, [], Some, true, fold, map, codes}
 use Rattle.std.specs.Borrow.{Bor}
 use Rattle.clap.specs.Walk.{Rule, Text}
 use Rattle.clap.specs.Words.{App, fault_of, new_app, new_rule, with_rule}
@@ -11,6 +11,26 @@ mode_name = codes "mode"
 -- the name of the option for the most bytes of the input
 abbrev pub bytes_name : Text
 bytes_name = codes "bytes"
+
+-- the name of the option for the mix of a trace that is made
+abbrev pub mix_name : Text
+mix_name = codes "mix"
+
+-- the name of the option for the number of its keys
+abbrev pub load_name : Text
+load_name = codes "load"
+
+-- the name of the option for the number of its operations
+abbrev pub ops_name : Text
+ops_name = codes "ops"
+
+-- the name of the option for its seed
+abbrev pub seed_name : Text
+seed_name = codes "seed"
+
+-- the name of the option for what is written of it
+abbrev pub print_name : Text
+print_name = codes "print"
 
 -- the option of each limit by its name, with its default
 abbrev pub limit_options : List (Text × Text)
@@ -26,9 +46,19 @@ limit_options =
     ∷ (codes "first-version", codes "0")
     ∷ []
 
+-- the option of each part of a recipe by its name, with its default
+abbrev pub recipe_options : List (Text × Text)
+recipe_options =
+    (mix_name, codes "a")
+    ∷ (load_name, codes "1000")
+    ∷ (ops_name, codes "1000")
+    ∷ (seed_name, codes "1")
+    ∷ (print_name, codes "summary")
+    ∷ []
+
 -- each option by its name, with its default
 abbrev pub options : List (Text × Text)
-options = (bytes_name, codes "1099511627776") ∷ limit_options
+options = (bytes_name, codes "1099511627776") ∷ limit_options ++ recipe_options
 
 -- the two texts of a row
 abbrev pub row_of : Bor Text × Bor Text → Text × Text

@@ -11,7 +11,7 @@ use std::alloc::{AllocError, Global};
 pub const MODE: &str = "mode";
 
 /// Each option by its name, with its default.
-static OPTIONS: [(&str, &str); 10] = [
+static OPTIONS: [(&str, &str); 15] = [
     ("bytes", "1099511627776"),
     ("callers", "4"),
     ("records", "65536"),
@@ -22,6 +22,11 @@ static OPTIONS: [(&str, &str); 10] = [
     ("assist", "64"),
     ("chain", "16"),
     ("first-version", "0"),
+    ("mix", "a"),
+    ("load", "1000"),
+    ("ops", "1000"),
+    ("seed", "1"),
+    ("print", "summary"),
 ];
 
 /// The command that knows the mode and each option.

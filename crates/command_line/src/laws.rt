@@ -10,8 +10,8 @@ pub fn words_determine_the_command()
     ensures { WordsDetermineTheCommand }
 {}
 
-/// The mode alone is a command, and so is the mode with an option and a number in its bounds before
-/// or after it.
+/// Each mode alone is a command, and so is a mode with an option and one of its values before or
+/// after it. The option changes its own number, word or limit alone.
 pub fn plain_forms_are_commands()
     ensures { PlainFormsAreCommands }
 {}

@@ -10,9 +10,10 @@ mod grammar;
 mod laws;
 mod limits;
 mod reading;
+mod recipes;
 mod values;
 
-pub use answers::{Command, CommandError, MOST_BYTES, Mode};
+pub use answers::{Command, CommandError, MOST_BYTES, MOST_LOAD, MOST_OPS, Mode, Print, Recipe};
 pub use laws::{
     each_is_given_once, plain_forms_are_commands, saturation_keeps_rules,
     words_determine_the_command,

@@ -7,7 +7,7 @@ ghost use Rattle.clap.specs.Words.{found_of, rows_of};
 ghost use Rattle.command_line.specs.Asked.{HasLimitAt, HasLimits, limits_found, number_at};
 ghost use Rattle.command_line.specs.Asked.{saturated, saturated_limits};
 
-use crate::values::number_from;
+use crate::values::number_in;
 use clap::ArgMatches;
 use word_layout::Limits;
 
@@ -25,7 +25,7 @@ pub fn limits_in(matches: &ArgMatches) -> Option<Limits>
         due: limit_in(matches, "due")?,
         help: limit_in(matches, "assist")?,
         chain: limit_in(matches, "chain")?,
-        first_version: number_in(matches, "first-version")?,
+        first_version: number_in(0, u64::MAX, matches, "first-version")?,
     })
 }
 
@@ -33,14 +33,7 @@ fn limit_in(matches: &ArgMatches, name: &str) -> Option<u32>
     ensures { let found = rows_of (found_of matches.now) in
         SomeIff result (HasLimitAt found name.now) (saturated (number_at found name.now)) }
 {
-    Some(saturated(number_in(matches, name)?))
-}
-
-fn number_in(matches: &ArgMatches, name: &str) -> Option<u64>
-    ensures { let found = rows_of (found_of matches.now) in
-        SomeIff result (HasLimitAt found name.now) (number_at found name.now) }
-{
-    number_from(0, u64::MAX, matches.get_str(name)?)
+    Some(saturated(number_in(0, u64::MAX, matches, name)?))
 }
 
 fn saturated(number: u64) -> u32

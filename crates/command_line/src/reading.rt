@@ -1,12 +1,13 @@
 //! Reading the words of the command line.
-ghost use Rattle.std.specs.Prelude.{◌≡◌, ◌≤◌, IfNone, IfOk, IfSome};
+ghost use Rattle.std.specs.Prelude.{◌≡◌, IfNone, IfOk, IfSome};
 ghost use Rattle.clap.specs.Words.{found_of, rows_of};
-ghost use Rattle.command_line.specs.Command.{AsksFor, IsCommand, texts_of};
+ghost use Rattle.command_line.specs.Command.{AsksFor, IsCommand, KeepsBounds, texts_of};
 
 use crate::answers::{Command, CommandError, MOST_BYTES, Mode};
 use crate::grammar::{MODE, grammar};
 use crate::limits::limits_in;
-use crate::values::number_from;
+use crate::recipes::recipe_in;
+use crate::values::number_in;
 use clap::ArgMatches;
 use std::alloc::Global;
 
@@ -15,8 +16,7 @@ use std::alloc::Global;
 /// `Memory` may come for any words.
 pub fn read_command(alloc: Global, words: &[&str]) -> Result<Command, CommandError>
     ensures ok { IfOk result (IsCommand (texts_of words.now)) }
-    ensures bounds { IfOk result (λ command.
-        (1 ≤ command.bytes) × (command.bytes ≤ MOST_BYTES)) }
+    ensures bounds { IfOk result KeepsBounds }
     ensures usage_only_for_no_command { result ≡ Err CommandError.Usage
         → (command : Command) → ¬ IsCommand (texts_of words.now) command }
 {
@@ -30,11 +30,13 @@ fn command_in(matches: &ArgMatches) -> Option<Command>
         → ¬ AsksFor (rows_of (found_of matches.now)) command) }
 {
     let mode = Mode::named(matches.get_str(MODE)?)?;
-    let bytes = number_from(1, MOST_BYTES, matches.get_str("bytes")?)?;
+    let bytes = number_in(1, MOST_BYTES, matches, "bytes")?;
     let limits = limits_in(matches)?;
+    let recipe = recipe_in(matches)?;
     Some(Command {
         mode,
         bytes,
         limits,
+        recipe,
     })
 }

@@ -3,3 +3,4 @@ pub mod Sessions
 pub mod Endings
 pub mod OneText
 pub mod Carrying
+pub mod Weighing

@@ -4,3 +4,5 @@ pub mod Asked
 pub mod Served
 pub mod Memory
 pub mod Laws
+pub mod Texts
+pub mod Enough

@@ -11,6 +11,7 @@ mod laws;
 mod memory;
 mod replies;
 mod serving;
+mod texts;
 
 pub use ends::{Ended, Ends, Gave, Sink, SinkFailed, Source, Took};
 pub use gates::{Gate, NoGate};
@@ -18,3 +19,4 @@ pub use laws::{bytes_have_one_text, requests_have_one_text};
 pub use memory::{BytesSink, BytesSource, CountSink, SureSource};
 pub use replies::{reply_to, write_all, write_out};
 pub use serving::serve_one;
+pub use texts::{TextError, read_text};

@@ -9,13 +9,11 @@ ghost use Rattle.line_session.specs.Served.{EndsByReply, EndsWithInput, HandsOnA
 
 use crate::gates::{Arrivals, Gate};
 use crate::replies::{reply_to, write_reply};
+use crate::texts::{PIECE, read_at_most};
 use crate::{Ended, Sink, SinkFailed, Source, Took};
 use map_model::Answerer;
 use std::sync::Wait;
 use wire_commands::{Feed, Request};
-
-/// The most bytes of one read.
-const PIECE: usize = 4096;
 
 /// Serves one session: reads requests, asks each and writes its reply before the next, until the input ends, a line
 /// asks for the end, an end fails, or `most` bytes were taken. What the sink holds back of the replies is handed on
@@ -112,8 +110,7 @@ fn read_piece<S: Source, K: Sink>(
     ensures faults { CountsRead (result ≡ Took.Failed)
         (S.state source.old) (S.state source.new) }
 {
-    let room = most.min(PIECE as u64) as usize;
-    source.read(&mut buffer[..room])
+    read_at_most(source, buffer, most)
 }
 
 // Answers each request that a piece completes, until one ends the session.

@@ -1,13 +1,38 @@
 //! What the words of the command line ask for.
-use command_line::{Command, CommandError, MOST_BYTES, Mode, read_command};
+use command_line::{Command, CommandError, MOST_BYTES, Mode, Print, Recipe, read_command};
 use std::alloc::Global;
 use std::test::Fail;
 use word_layout::Limits;
+use ycsb_mix::Mix;
 
 // The words of the line are parted by one blank each.
 fn read_line(alloc: Global, line: &str) -> Result<Result<Command, CommandError>, Fail> {
     let words: Vec<&str> = line.split(' ').collect(alloc)?;
     Ok(read_command(alloc, words.as_slice()))
+}
+
+// What a mode alone asks for.
+fn standard(mode: Mode) -> Command {
+    Command {
+        mode,
+        bytes: MOST_BYTES,
+        limits: Limits::standard(),
+        recipe: Recipe {
+            mix: Mix::A,
+            load: 1000,
+            ops: 1000,
+            seed: 1,
+            print: Print::Summary,
+        },
+    }
+}
+
+#[test]
+fn each_mode_alone_has_the_standard_values(rt: HostRuntime) -> Result<(), Fail> {
+    for (line, mode) in [("pipe", Mode::Pipe), ("run", Mode::Run), ("gen", Mode::Gen)] {
+        assert_eq!(rt; read_line(rt.alloc(), line)?, Ok(standard(mode)), "{line}");
+    }
+    Ok(())
 }
 
 #[test]
@@ -29,12 +54,9 @@ fn words_of_the_grammar_ask_for_a_command(rt: HostRuntime) -> Result<(), Fail> {
         ("pipe --", MOST_BYTES),
         ("--bytes 8 -- pipe", 8),
     ] {
-        let asked = Ok(Command {
-            mode: Mode::Pipe,
-            bytes,
-            limits: Limits::standard(),
-        });
-        assert_eq!(rt; read_line(rt.alloc(), line)?, asked, "{line}");
+        let mut asked = standard(Mode::Pipe);
+        asked.bytes = bytes;
+        assert_eq!(rt; read_line(rt.alloc(), line)?, Ok(asked), "{line}");
     }
     Ok(())
 }
@@ -71,11 +93,9 @@ fn each_option_of_a_limit_changes_its_own_field(rt: HostRuntime) -> Result<(), F
 
 // The command of a session with these limits.
 fn pipe(limits: Limits) -> Command {
-    Command {
-        mode: Mode::Pipe,
-        bytes: MOST_BYTES,
-        limits,
-    }
+    let mut command = standard(Mode::Pipe);
+    command.limits = limits;
+    command
 }
 
 // The standard limits, but for these numbers.
@@ -94,6 +114,65 @@ fn changed(changes: &[(&str, u32)]) -> Limits {
         }
     }
     limits
+}
+
+#[test]
+fn each_option_of_a_recipe_changes_its_own_field(rt: HostRuntime) -> Result<(), Fail> {
+    let table = [
+        ("gen --mix a", Mix::A, 1000, 1000, 1),
+        ("gen --mix b", Mix::B, 1000, 1000, 1),
+        ("--mix=c gen", Mix::C, 1000, 1000, 1),
+        ("--mix d gen", Mix::D, 1000, 1000, 1),
+        ("gen --mix=f", Mix::F, 1000, 1000, 1),
+        ("gen --load 1", Mix::A, 1, 1000, 1),
+        ("gen --load=1048576", Mix::A, 1048576, 1000, 1),
+        ("gen --load 000000000000000007", Mix::A, 7, 1000, 1),
+        ("gen --ops 0", Mix::A, 1000, 0, 1),
+        ("--ops=1048576 gen", Mix::A, 1000, 1048576, 1),
+        ("gen --ops 00", Mix::A, 1000, 0, 1),
+        ("gen --seed 0", Mix::A, 1000, 1000, 0),
+        ("gen --seed=7", Mix::A, 1000, 1000, 7),
+        ("gen --seed 000000000000000007", Mix::A, 1000, 1000, 7),
+        ("--seed 3 gen --ops=2 --mix f --load 9", Mix::F, 9, 2, 3),
+    ];
+    for (line, mix, load, ops, seed) in table {
+        let mut asked = standard(Mode::Gen);
+        asked.recipe.mix = mix;
+        asked.recipe.load = load;
+        asked.recipe.ops = ops;
+        asked.recipe.seed = seed;
+        assert_eq!(rt; read_line(rt.alloc(), line)?, Ok(asked), "{line}");
+    }
+    Ok(())
+}
+
+#[test]
+fn every_mode_takes_the_options_of_a_recipe(rt: HostRuntime) -> Result<(), Fail> {
+    for (line, mode, seed) in [
+        ("gen --seed 18446744073709551615", Mode::Gen, u64::MAX),
+        ("run --seed 3", Mode::Run, 3),
+        ("--seed=4 run", Mode::Run, 4),
+        ("pipe --seed 5", Mode::Pipe, 5),
+    ] {
+        let mut asked = standard(mode);
+        asked.recipe.seed = seed;
+        assert_eq!(rt; read_line(rt.alloc(), line)?, Ok(asked), "{line}");
+    }
+    Ok(())
+}
+
+#[test]
+fn what_is_written_of_a_trace_is_asked_for_by_its_word(rt: HostRuntime) -> Result<(), Fail> {
+    for (line, mode, print) in [
+        ("gen --print trace", Mode::Gen, Print::Trace),
+        ("gen --print=summary", Mode::Gen, Print::Summary),
+        ("--print trace run", Mode::Run, Print::Trace),
+    ] {
+        let mut asked = standard(mode);
+        asked.recipe.print = print;
+        assert_eq!(rt; read_line(rt.alloc(), line)?, Ok(asked), "{line}");
+    }
+    Ok(())
 }
 
 #[test]
@@ -139,6 +218,50 @@ fn all_other_words_are_bad_usage(rt: HostRuntime) -> Result<(), Fail> {
         "pipe --help",
         "--version",
         "-V",
+    ] {
+        assert_eq!(rt;
+            read_line(rt.alloc(), line)?,
+            Err(CommandError::Usage),
+            "{line}"
+        );
+    }
+    Ok(())
+}
+
+#[test]
+fn other_modes_and_values_of_a_recipe_are_bad_usage(rt: HostRuntime) -> Result<(), Fail> {
+    for line in [
+        "pipe gen",
+        "gen run",
+        "run --bytes 0",
+        "gen --mix",
+        "gen --mix=",
+        "gen --mix e",
+        "gen --mix A",
+        "gen --mix ab",
+        "gen --mix a --mix a",
+        "gen --load 0",
+        "gen --load 1048577",
+        "gen --load 4294967297",
+        "gen --load x",
+        "gen --load 5 --load 5",
+        "gen --ops 1048577",
+        "gen --ops -1",
+        "gen --ops 5 --ops=5",
+        "gen --seed 18446744073709551616",
+        "gen --seed 0x7",
+        "gen --seed=7 --seed 7",
+        "gen --print",
+        "gen --print x",
+        "gen --print Trace",
+        "gen --print trace --print trace",
+        "run --mix e",
+        "pipe --load 0",
+        "--mix a",
+        "replay",
+        "serve",
+        "gen --port 7411",
+        "gen --connections 0",
     ] {
         assert_eq!(rt;
             read_line(rt.alloc(), line)?,

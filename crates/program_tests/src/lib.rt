@@ -14,3 +14,5 @@ mod programs;
 mod sessions;
 #[cfg(test)]
 mod streams;
+#[cfg(test)]
+mod traces;

@@ -14,12 +14,12 @@ const SESSION: &[u8] = b"put 5 50\nget 5\nput 5 51\nremove 5\nget 5\nremove 5\n"
 const REPLIES: &[u8] = b"new\nvalue 50\nold 50\nold 51\nnone\nnone\n";
 
 // A gate that holds no request.
-fn no_gate(alloc: Global) -> Result<Arc<NoGate>, AllocError> {
+pub(crate) fn no_gate(alloc: Global) -> Result<Arc<NoGate>, AllocError> {
     Ok(Arc::new(alloc, NoGate)?)
 }
 
 // The program on these words and this input, from bytes to bytes.
-fn assert_writes<R: Threads + Wait + Copy + Send + Sync + Abort + 'static>(
+pub(crate) fn assert_writes<R: Threads + Wait + Copy + Send + Sync + Abort + 'static>(
     rt: &R,
     alloc: Global,
     words: &[&str],
@@ -332,6 +332,7 @@ fn each_status_has_its_number(rt: HostRuntime) {
         (Status::Usage, 2),
         (Status::ReadFault, 3),
         (Status::WriteFault, 4),
+        (Status::BadTrace, 5),
         (Status::Memory, 6),
         (Status::BadLimits, 7),
         (Status::Limit, 9),

@@ -1,1 +1,2 @@
 pub mod PlainSessions
+pub mod EnoughSessions

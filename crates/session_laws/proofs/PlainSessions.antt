@@ -31,7 +31,8 @@ use Rattle.line_session.specs.Session.{Exchange, Session, Tells, reply_of}
 use Rattle.line_session.proofs.OneText.{bytes_have_one_text, requests_have_one_text}
 use Rattle.word_layout.specs.declared.limits.Limits.{Limits}
 use Rattle.xindex_core.specs.Alone.{AddsNext, AnswersAlone, map_of}
-use Rattle.session_laws.specs.PlainLaw.{BytesAloneHaveOneText, HasNoRefusal, IsNoRefusal}
+use Rattle.line_session.specs.Enough.{HasNoRefusal, IsNoRefusal}
+use Rattle.session_laws.specs.PlainLaw.{BytesAloneHaveOneText}
 use Rattle.session_laws.specs.PlainLaw.{PlainSessionsHaveTheSameReplies, SessionsAloneArePlain}
 
 -- ---- lengths ----

@@ -1,1 +1,2 @@
 pub mod PlainLaw
+pub mod EnoughLaw

@@ -1,30 +1,19 @@
 -- What follows of sessions over an index that nobody else changes, as statements: where no reply is `full` or
 -- `worn`, each is a session over a plain map.
 use Rattle.std.specs.Prelude.{◌≡◌, ℕ, ◌≤◌, List, []}
-use Rattle.std.specs.List.{AllByRecursion}
 use Rattle.map_model.specs.History.{inserts}
 use Rattle.map_model.specs.Logs.{Log, changes_of}
 use Rattle.map_model.specs.PlainMap.{Answers, BoundedMap}
 use Rattle.wire_commands.specs.declared.request.Request.{Request}
 use Rattle.wire_commands.specs.declared.reply.Reply.{Reply}
-use Rattle.wire_commands.specs.declared.reply.Reply.TheVariants.{Full, Worn}
 use Rattle.line_session.specs.declared.ends.Ended.{Ended}
 use Rattle.line_session.specs.Asked.{Stop}
+use Rattle.line_session.specs.Enough.{HasNoRefusal}
 use Rattle.line_session.specs.Laws.{WroteAll}
 use Rattle.line_session.specs.Served.{Conversation}
 use Rattle.line_session.specs.Session.{Session}
 use Rattle.word_layout.specs.declared.limits.Limits.{Limits}
 use Rattle.xindex_core.specs.Alone.{AnswersAlone, map_of}
-
--- the reply does not tell that the index refused a call
-abbrev pub IsNoRefusal : Reply → Type 0
-IsNoRefusal Full = ⊥
-IsNoRefusal Worn = ⊥
-IsNoRefusal reply = Unit {0}
-
--- no reply tells that the index refused a call
-abbrev pub HasNoRefusal : List Reply → Type 0
-HasNoRefusal replies = AllByRecursion IsNoRefusal replies
 
 -- a session without a refusal is one over a plain map, from the empty one to the one that the log tells, with
 -- any room that as many keys as were inserted fit in

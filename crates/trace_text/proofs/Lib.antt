@@ -4,3 +4,5 @@ pub mod KeptLaws
 pub mod TextLaws
 pub mod TranscriptLaws
 pub mod WrittenLaws
+pub mod OnceLaws
+pub mod CountLaws

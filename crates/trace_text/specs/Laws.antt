@@ -6,7 +6,7 @@ use Rattle.trace_text.specs.declared.lines.Line.{Line}
 use Rattle.trace_text.specs.declared.lines.Line.TheVariants.{Phase, Caller, Call}
 use Rattle.trace_text.specs.Lines.{Says}
 use Rattle.trace_text.specs.Text.{number_line, pair_line}
-use Rattle.trace_text.specs.Traces.{HasLines}
+use Rattle.trace_text.specs.Traces.{HasFirstBad, HasLines, IsTrace}
 
 -- each text has its lines, and no others
 abbrev pub TextsHaveLines : Type 0
@@ -19,6 +19,15 @@ abbrev pub LinesSayOneThing : Type 0
 LinesSayOneThing =
     (callers : ℕ) (whole : List ℕ) (said other : Line)
     → Says callers whole said → Says callers whole other → said ≡ other
+
+-- a text is read in one way: as one trace, or by one first bad line
+pub record IsReadOnce (callers : ℕ) (text : List ℕ) : Type 0 where
+  pub one_trace : (told other : List Line) → IsTrace callers text told
+      → IsTrace callers text other → told ≡ other
+  pub one_bad : (number other : ℕ) → HasFirstBad callers text number
+      → HasFirstBad callers text other → number ≡ other
+  pub not_both : (told : List Line) (number : ℕ) → IsTrace callers text told
+      → ¬ (HasFirstBad callers text number)
 
 -- the bytes are one line with its newline, and the line says this
 abbrev pub WritesLine : ℕ → List ℕ → Line → Type 0

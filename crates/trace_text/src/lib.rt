@@ -4,6 +4,7 @@
 #![tactic(auto)]
 
 mod appending;
+mod counting;
 mod keeping;
 mod laws;
 mod lines;
@@ -11,8 +12,11 @@ mod traces;
 mod transcripts;
 
 pub use appending::{append_number, append_pair, append_reply};
+pub use counting::{Form, reply_count};
 pub use keeping::{Cursor, Trace};
-pub use laws::{each_text_has_its_lines, no_line_says_two_things, written_lines_are_read};
+pub use laws::{
+    each_text_has_its_lines, no_line_says_two_things, no_text_is_two_traces, written_lines_are_read,
+};
 pub use lines::{Line, read_trace_line};
 pub use traces::{TraceError, read_trace};
 pub use transcripts::{append_caller, append_phase, append_rows};

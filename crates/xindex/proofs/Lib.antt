@@ -1,2 +1,5 @@
 pub mod LimitLaws
 pub mod Sessions
+pub mod Endings
+pub mod Runs
+pub mod Counting

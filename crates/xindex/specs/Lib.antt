@@ -1,2 +1,5 @@
+pub mod Telling
+pub mod Ran
+pub mod Generated
 pub mod Outcome
 pub mod Served

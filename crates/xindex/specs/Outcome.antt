@@ -2,18 +2,23 @@
 use Rattle.std.specs.Prelude.{◌≡◌, ◌++◌, ℕ, List, [], MatchOption, None, codes, decimal}
 use Rattle.line_session.specs.declared.ends.Ended.{Ended}
 use Rattle.line_session.specs.declared.ends.Ended.TheVariants as ended
-use Rattle.line_session.specs.Ends.{EndsState, HandsAllOn, HandsNotAllOn}
+use Rattle.line_session.specs.Ends.{EndsState}
 use Rattle.line_session.specs.Served.{Serves}
 use Rattle.command_line.specs.declared.answers.Command.{Command}
+use Rattle.command_line.specs.declared.answers.Mode.{Mode}
+use Rattle.command_line.specs.declared.answers.Mode.TheVariants.{Pipe, Run, Gen}
 use Rattle.command_line.specs.Command.{IsCommand, asked_limits}
 use Rattle.word_layout.specs.declared.limits.Limits.{Limits}
 use Rattle.word_layout.specs.Limits.{IsFirstBroken}
 use Rattle.xindex_core.specs.declared.index.Opened.{Opened}
 use Rattle.xindex_core.specs.Alone.{AnswersAlone}
 use Rattle.xindex.specs.declared.outcome.Outcome.{Outcome}
+use Rattle.xindex.specs.Generated.{Generates}
+use Rattle.xindex.specs.Ran.{Runs}
 use Rattle.xindex.specs.Served.{IsServed, first_log}
+use Rattle.xindex.specs.Telling.{Tells}
 use Rattle.xindex.specs.declared.status.Status.{Status}
-use Rattle.xindex.specs.declared.status.Status.TheVariants.{Done, Usage, ReadFault, WriteFault, Memory, BadLimits, Limit}
+use Rattle.xindex.specs.declared.status.Status.TheVariants.{Done, Usage, ReadFault, WriteFault, BadTrace, Memory, BadLimits, Limit}
 
 -- the number with which the process ends
 abbrev pub number_of : Status → ℕ
@@ -21,6 +26,7 @@ number_of Done = 0
 number_of Usage = 2
 number_of ReadFault = 3
 number_of WriteFault = 4
+number_of BadTrace = 5
 number_of Memory = 6
 number_of BadLimits = 7
 number_of Limit = 9
@@ -43,12 +49,6 @@ usage_line = codes "bad usage\n"
 abbrev pub limit_line : ℕ → List ℕ
 limit_line number = codes "bad limit " ++ decimal number ++ codes "\n"
 
--- what is written for a refusal: its line, and all of it is handed on, but where the sink failed
-abbrev pub Refuses : List ℕ → Status → EndsState → EndsState → Status → Type 0
-Refuses line refused old new WriteFault = HandsNotAllOn line old new
-Refuses line refused old new Memory = new.written ≡ old.written
-Refuses line refused old new status = (status ≡ refused) × HandsAllOn line old new
-
 -- how the end of a session is told
 abbrev pub status_of : Ended → Status
 status_of ended.End = Done
@@ -64,7 +64,7 @@ unopened status = record { status = status; opened = None }
 -- the program told a refusal and did nothing else: nothing was read, and no index opened
 pub record OnlyRefuses (line : List ℕ) (refused : Status) (ends_old ends_new : EndsState)
     (outcome : Outcome) : Type 0 where
-  pub refusal : Refuses line refused ends_old ends_new outcome.status
+  pub refusal : Tells line refused ends_old ends_new outcome.status
   pub unread : ends_new.left ≡ ends_old.left
   pub no_index : outcome ≡ unopened outcome.status
 
@@ -82,3 +82,14 @@ abbrev pub PipesOrLacksMemory : Limits → ℕ → EndsState → EndsState → O
 PipesOrLacksMemory l most ends_old ends_new outcome =
     MatchOption outcome.opened (outcome.status ≡ Memory)
     (Pipes l most ends_old ends_new outcome.status)
+
+-- the program did what the mode is for, over limits that keep the rules; only a session has an index to hand out
+abbrev pub Does : Mode → Command → EndsState → EndsState → Outcome → Type 0
+Does Pipe command old new outcome =
+    PipesOrLacksMemory command.limits command.bytes old new outcome
+Does Run command old new outcome =
+    Runs command.limits command.bytes old new outcome.status
+    × (outcome ≡ unopened outcome.status)
+Does Gen command old new outcome =
+    Generates command.limits command.recipe old new outcome.status
+    × (new.left ≡ old.left) × (outcome ≡ unopened outcome.status)

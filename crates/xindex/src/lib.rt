@@ -4,9 +4,14 @@
 //! streams under it, which tell no bytes.
 #![tactic(auto)]
 
+mod generating;
 mod outcome;
+mod piping;
+mod running;
 mod serving;
 mod status;
+mod summary;
+mod telling;
 mod top;
 
 pub use caller_phases::{Ran, run_phases};

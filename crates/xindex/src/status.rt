@@ -16,6 +16,9 @@ pub enum Status {
     /// A write failed.
     WriteFault,
 
+    /// A line of the trace is bad.
+    BadTrace,
+
     /// There was no memory.
     Memory,
 
@@ -38,6 +41,7 @@ impl Status {
             Status::Usage => 2,
             Status::ReadFault => 3,
             Status::WriteFault => 4,
+            Status::BadTrace => 5,
             Status::Memory => 6,
             Status::BadLimits => 7,
             Status::Limit => 9,

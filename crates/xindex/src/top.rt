@@ -1,32 +1,29 @@
 //! The top call.
-ghost use Rattle.std.specs.Prelude.{◌≡◌, ◌≢◌, ◌≤◌, ℕ, IsSome, IsSomeAnd};
+ghost use Rattle.std.specs.Prelude.{◌≡◌, ◌≢◌, ◌≤◌, ℕ, IsSome};
 ghost use Rattle.command_line.specs.declared.answers.Command.{Command};
-ghost use Rattle.command_line.specs.Command.{IsCommand, asked_limits, texts_of};
+ghost use Rattle.command_line.specs.Command.{IsCommand, KeepsBounds, asked_limits, texts_of};
 ghost use Rattle.line_session.specs.Ends.{CountsRead, CountsWrite, ends_of};
 ghost use Rattle.word_layout.specs.Limits.{IsFirstBroken, KeepsRules};
-ghost use Rattle.xindex_core.specs.Opened.{IsNewlyOpened};
-ghost use Rattle.xindex_core.specs.Passes.{limits_of_index};
-ghost use Rattle.xindex.specs.Outcome.{AsksBadLimits, IsNoCommand, OnlyRefuses, Pipes};
-ghost use Rattle.xindex.specs.Outcome.{PipesOrLacksMemory, Refuses, limit_line, status_of};
-ghost use Rattle.xindex.specs.Outcome.{usage_line};
+ghost use Rattle.xindex.specs.Outcome.{AsksBadLimits, Does, IsNoCommand, OnlyRefuses};
+ghost use Rattle.xindex.specs.Outcome.{limit_line, usage_line};
 
-use crate::serving::serve_alone;
+use crate::generating::generate;
+use crate::piping::pipe;
+use crate::running::run;
+use crate::telling::{tell, tell_number};
 use crate::{Outcome, Status};
 use command_line::{Command, CommandError, Mode, read_command};
-use line_session::{Ended, Gate, Sink, Source, write_out};
+use line_session::{Gate, Sink, Source};
 use std::alloc::Global;
-use std::marker::Brand;
 use std::sync::{Arc, Wait};
 use std::thread::Threads;
-use wire_commands::write_number;
-use xindex_core::{Index, OpenError, Opened};
 
 /// All that the program does. `words` are those of the command line after the program's name. Each request waits at the
 /// gate before it is asked.
 ///
-/// A session is served over an empty index, by its pass 0, and the index is handed out. Words that ask
-/// for nothing are answered by one line, and so are limits that break a rule; then nothing is read or
-/// opened. `Memory` may come for any words.
+/// `pipe` serves a session over an empty index, by its pass 0, and hands the index out. `run` runs the trace that the
+/// source gives over an empty index, and `gen` one that it makes. Words that ask for nothing are answered by one line,
+/// and so are limits that break a rule; then nothing is read or opened. `Memory` may come for any words.
 pub fn xindex<R, S: Source, K: Sink, G: Gate + Send + Sync + 'static>(
     rt: &R,
     alloc: Global,
@@ -37,16 +34,16 @@ pub fn xindex<R, S: Source, K: Sink, G: Gate + Send + Sync + 'static>(
 ) -> Outcome
 where
     R: Threads + Wait + Copy + Send + Sync + 'static,
-    // Words that ask for a session, with limits that keep the rules, get one of the bytes taken.
-    ensures session { (command : Command) → IsCommand (texts_of words.now) command
-        → KeepsRules (asked_limits (texts_of words.now))
-        → PipesOrLacksMemory command.limits command.bytes
+    // Words that ask for a mode, with limits that keep the rules, get what the mode does.
+    ensures does { (command : Command) → IsCommand (texts_of words.now) command
+        → KeepsRules (asked_limits (texts_of words.now)) → Does command.mode command
         (ends_of (S.state source.old) (K.state sink.old))
         (ends_of (S.state source.new) (K.state sink.new)) result }
 
-    // An index is handed out only where the words ask for one.
+    // An index is handed out only where the words ask for a session.
     ensures opened { IsSome result.opened → (command : Command)
-        × IsCommand (texts_of words.now) command × KeepsRules command.limits }
+        × IsCommand (texts_of words.now) command × (command.mode ≡ Mode.Pipe)
+        × KeepsRules command.limits }
 
     // Only words that ask for nothing are bad usage. They are told so; nothing is read or opened.
     ensures usage { result.status ≡ Status.Usage → IsNoCommand (texts_of words.now) }
@@ -62,8 +59,13 @@ where
         (ends_of (S.state source.old) (K.state sink.old))
         (ends_of (S.state source.new) (K.state sink.new)) result }
 
-    // Want of memory comes before anything is read or written.
-    ensures memory_unread { result.status ≡ Status.Memory
+    // Only a trace that is to be run is bad.
+    ensures traces { result.status ≡ Status.BadTrace → (command : Command)
+        × IsCommand (texts_of words.now) command × (command.mode ≡ Mode.Run) }
+
+    // Want of memory comes before anything is written, and but for a trace that is to be run before anything is read.
+    ensures memory_unread { (command : Command) → IsCommand (texts_of words.now) command
+        → command.mode ≢ Mode.Run → result.status ≡ Status.Memory
         → (S.state source.new).left ≡ (S.state source.old).left }
     ensures memory_unwritten { result.status ≡ Status.Memory
         → (K.state sink.new).written ≡ (K.state sink.old).written }
@@ -75,16 +77,14 @@ where
         (K.state sink.old) (K.state sink.new) }
 {
     match read_command(alloc, words) {
-        Ok(command) => run(rt, alloc, command, source, sink, gate),
-        Err(CommandError::Usage) => {
-            Outcome::unopened(refuse(sink, b"bad usage\n", Status::Usage))
-        }
+        Ok(command) => obey(rt, alloc, command, source, sink, gate),
+        Err(CommandError::Usage) => { Outcome::unopened(tell(sink, b"bad usage\n", Status::Usage)) }
         Err(CommandError::Memory) => Outcome::unopened(Status::Memory),
     }
 }
 
-// Runs the command over a new index, if its limits keep the rules.
-fn run<R: Wait + Copy, S: Source, K: Sink, G: Gate>(
+// Does what the mode is for, if the limits keep the rules.
+fn obey<R, S: Source, K: Sink, G: Gate + Send + Sync + 'static>(
     rt: &R,
     alloc: Global,
     command: Command,
@@ -92,11 +92,14 @@ fn run<R: Wait + Copy, S: Source, K: Sink, G: Gate>(
     sink: &mut K,
     gate: Arc<G>,
 ) -> Outcome
-    requires { 1 ≤ command.bytes }
-    ensures session { KeepsRules command.limits → PipesOrLacksMemory command.limits command.bytes
+where
+    R: Threads + Wait + Copy + Send + Sync + 'static,
+    requires { KeepsBounds command }
+    ensures does { KeepsRules command.limits → Does command.mode command
         (ends_of (S.state source.old) (K.state sink.old))
         (ends_of (S.state source.new) (K.state sink.new)) result }
-    ensures opened { IsSome result.opened → KeepsRules command.limits }
+    ensures opened { IsSome result.opened
+        → (command.mode ≡ Mode.Pipe) × KeepsRules command.limits }
     ensures no_usage { result.status ≢ Status.Usage }
     ensures limits { result.status ≡ Status.BadLimits
         → (number : ℕ) × IsFirstBroken command.limits number }
@@ -104,7 +107,8 @@ fn run<R: Wait + Copy, S: Source, K: Sink, G: Gate>(
         → OnlyRefuses (limit_line number) Status.BadLimits
         (ends_of (S.state source.old) (K.state sink.old))
         (ends_of (S.state source.new) (K.state sink.new)) result }
-    ensures memory_unread { result.status ≡ Status.Memory
+    ensures traces { result.status ≡ Status.BadTrace → command.mode ≡ Mode.Run }
+    ensures memory_unread { command.mode ≢ Mode.Run → result.status ≡ Status.Memory
         → (S.state source.new).left ≡ (S.state source.old).left }
     ensures memory_unwritten { result.status ≡ Status.Memory
         → (K.state sink.new).written ≡ (K.state sink.old).written }
@@ -113,78 +117,53 @@ fn run<R: Wait + Copy, S: Source, K: Sink, G: Gate>(
     ensures write_faults { CountsWrite (result.status ≡ Status.WriteFault)
         (K.state sink.old) (K.state sink.new) }
 {
-    match Index::open(alloc, command.limits, &[]) {
-        Ok(opened) => match command.mode {
-            Mode::Pipe => pipe(rt, opened, source, sink, &*gate, command.bytes),
-        },
-        Err(OpenError::BadLimit { number }) => Outcome::unopened(refuse_limits(sink, number)),
-        Err(OpenError::Memory) => Outcome::unopened(Status::Memory),
+    match command.limits.layout() {
+        Ok(_) => begin(rt, alloc, command, source, sink, gate),
+        Err(bad) => {
+            let number = u64::from(bad.number);
+            Outcome::unopened(tell_number(sink, b"bad limit ", number, Status::BadLimits))
+        }
     }
 }
 
-// Serves one session over the new index.
-fn pipe<R: Wait + Copy, S: Source, K: Sink, G: Gate>(
+// Does what the mode is for, over limits that keep the rules.
+fn begin<R, S: Source, K: Sink, G: Gate + Send + Sync + 'static>(
     rt: &R,
-    opened: Opened,
+    alloc: Global,
+    command: Command,
     source: &mut S,
     sink: &mut K,
-    gate: &G,
-    most: u64,
+    gate: Arc<G>,
 ) -> Outcome
-    requires most { 1 ≤ most }
-    requires new { IsNewlyOpened (limits_of_index opened.index) opened }
-    ensures session { IsSomeAnd result.opened (Pipes (limits_of_index opened.index) most
+where
+    R: Threads + Wait + Copy + Send + Sync + 'static,
+    requires bounds { KeepsBounds command }
+    requires rules { KeepsRules command.limits }
+    ensures does { Does command.mode command
         (ends_of (S.state source.old) (K.state sink.old))
-        (ends_of (S.state source.new) (K.state sink.new)) result.status) }
+        (ends_of (S.state source.new) (K.state sink.new)) result }
+    ensures opened { IsSome result.opened → command.mode ≡ Mode.Pipe }
+    ensures no_usage { result.status ≢ Status.Usage }
+    ensures no_bad_limits { result.status ≢ Status.BadLimits }
+    ensures traces { result.status ≡ Status.BadTrace → command.mode ≡ Mode.Run }
+    ensures memory_unread { command.mode ≢ Mode.Run → result.status ≡ Status.Memory
+        → (S.state source.new).left ≡ (S.state source.old).left }
+    ensures memory_unwritten { result.status ≡ Status.Memory
+        → (K.state sink.new).written ≡ (K.state sink.old).written }
     ensures read_faults { CountsRead (result.status ≡ Status.ReadFault)
         (S.state source.old) (S.state source.new) }
     ensures write_faults { CountsWrite (result.status ≡ Status.WriteFault)
         (K.state sink.old) (K.state sink.new) }
 {
-    let (ended, opened) = serve_alone::<Brand, R, S, K, G>(rt, opened, source, sink, gate, most);
-    Outcome {
-        status: status_of(ended),
-        opened: Some(opened),
-    }
-}
-
-// How the end of a session is told.
-fn status_of(ended: Ended) -> Status
-    ensures { result ≡ status_of ended }
-{
-    match ended {
-        Ended::End | Ended::Quit => Status::Done,
-        Ended::ReadFault => Status::ReadFault,
-        Ended::WriteFault => Status::WriteFault,
-        Ended::Limit => Status::Limit,
-    }
-}
-
-// Tells which rule the limits break first.
-fn refuse_limits<K: Sink>(sink: &mut K, number: u32) -> Status
-    ensures refusal { Refuses (limit_line number) Status.BadLimits
-        (K.state sink.old) (K.state sink.new) result }
-    ensures no_memory { result ≢ Status.Memory }
-    ensures write_faults { CountsWrite (result ≡ Status.WriteFault)
-        (K.state sink.old) (K.state sink.new) }
-{
-    let mut line = [0; 80];
-    let len = write_number(b"bad limit ", u64::from(number), &mut line);
-    refuse(sink, &line[..len], Status::BadLimits)
-}
-
-// Tells a refusal, and hands it on. Where that fails, the fault is the status.
-fn refuse<K: Sink>(sink: &mut K, line: &[u8], refused: Status) -> Status
-    requires no_fault { refused ≢ Status.WriteFault }
-    requires not_for_memory { refused ≢ Status.Memory }
-    ensures refusal { Refuses line.now refused
-        (K.state sink.old) (K.state sink.new) result }
-    ensures no_memory { result ≢ Status.Memory }
-    ensures write_faults { CountsWrite (result ≡ Status.WriteFault)
-        (K.state sink.old) (K.state sink.new) }
-{
-    match write_out(sink, line) {
-        Ok(()) => refused,
-        Err(_) => Status::WriteFault,
+    let Command {
+        mode,
+        bytes,
+        limits,
+        recipe,
+    } = command;
+    match mode {
+        Mode::Pipe => pipe(rt, alloc, limits, bytes, source, sink, &*gate),
+        Mode::Run => Outcome::unopened(run(rt, alloc, limits, bytes, source, sink, gate)),
+        Mode::Gen => Outcome::unopened(generate(rt, alloc, limits, recipe, sink, gate)),
     }
 }

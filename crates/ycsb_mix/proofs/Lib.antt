@@ -2,5 +2,4 @@ pub mod Strides
 pub mod ChoiceLaws
 pub mod DrawLaws
 pub mod StepLaws
-pub mod WritingLaws
 pub mod LineLaws

@@ -14,4 +14,4 @@ mod writing;
 pub use lines::mix_lines;
 pub use mixes::{Mix, MixError, Step};
 pub use steps::mix_steps;
-pub use writing::write_mix;
+pub use writing::{mix_text, write_mix};

@@ -1,5 +1,5 @@
-//! The text of a mix, written to a sink in pieces.
-ghost use Rattle.std.specs.Prelude.{◌≡◌, ◌++◌, ◌≤◌, ◌^◌, OnOk, OnErr, Err};
+//! The text of a mix, in memory and written to a sink.
+ghost use Rattle.std.specs.Prelude.{◌≡◌, ◌++◌, ◌≤◌, ◌^◌, IfOk, OnOk, Err};
 ghost use Rattle.std.specs.List.{flat_map};
 ghost use Rattle.std.specs.Io.KnownBytes.{append_known};
 ghost use Rattle.line_session.specs.Ends.{TakesFront, CountsWrite};
@@ -11,14 +11,33 @@ use line_session::{Sink, write_all};
 use std::alloc::{AllocError, Global};
 use trace_text::{append_number, append_pair};
 
-/// How many bytes are gathered before they are handed to the sink.
-const PIECE: usize = 65_536;
-
-/// Writes the trace of a mix: the load, and then the operations, caller by caller in each phase.
+/// The text of the trace of a mix: the load, and then the operations, caller by caller in each phase.
 ///
-/// It takes a load of 1 to 1,048,576 keys, at most 1,048,576 operations, 1 to 64 callers and any seed.
-/// `WriteFault` comes where the sink failed, and `Memory` where there is too little for the steps or for a piece of
-/// their lines. The sink has then taken a front of the text, and not all of it.
+/// It takes a load of 1 to 1,048,576 keys, at most 1,048,576 operations, 1 to 64 callers and any seed. The error is
+/// want of memory.
+pub fn mix_text(
+    alloc: Global,
+    mix: Mix,
+    load: u32,
+    ops: u32,
+    callers: u32,
+    seed: u64,
+) -> Result<Vec<u8>, AllocError>
+    requires loads_some { 1 ≤ load }
+    requires loads_few { load ≤ 2 ^ 20 }
+    requires few { ops ≤ 2 ^ 20 }
+    requires has_callers { 1 ≤ callers }
+    requires has_few_callers { callers ≤ 64 }
+    ensures { IfOk result (λ text. text.items ≡ text_of mix load ops callers seed) }
+{
+    let steps = mix_steps(alloc, mix, load, ops, callers, seed)?;
+    text_of(alloc, &steps)
+}
+
+/// Writes the trace of a mix, for the numbers that `mix_text` takes.
+///
+/// All memory is taken before the first write. Where the sink failed, it has taken a front of the text, and not all
+/// of it.
 pub fn write_mix<K: Sink>(
     alloc: Global,
     mix: Mix,
@@ -35,48 +54,32 @@ pub fn write_mix<K: Sink>(
     requires has_few_callers { callers ≤ 64 }
     ensures ok { OnOk result ((K.state sink.new).written
         ≡ append_known (K.state sink.old).written (text_of mix load ops callers seed)) }
-    ensures err { OnErr result (TakesFront (text_of mix load ops callers seed)
-        (K.state sink.old).written (K.state sink.new).written) }
+    ensures write_fault { result ≡ Err MixError.WriteFault
+        → TakesFront (text_of mix load ops callers seed)
+        (K.state sink.old).written (K.state sink.new).written }
+    ensures memory { result ≡ Err MixError.Memory
+        → (K.state sink.new).written ≡ (K.state sink.old).written }
     ensures faults { CountsWrite (result ≡ Err MixError.WriteFault)
         (K.state sink.old) (K.state sink.new) }
 {
-    let steps = mix_steps(alloc, mix, load, ops, callers, seed)?;
-    write_steps(alloc, &steps, sink)
-}
-
-/// Writes the lines of steps, some at a time.
-fn write_steps<K: Sink>(alloc: Global, steps: &[Step], sink: &mut K) -> Result<(), MixError>
-    ensures ok { OnOk result ((K.state sink.new).written
-        ≡ append_known (K.state sink.old).written (flat_map line_of steps.now)) }
-    ensures err { OnErr result (TakesFront (flat_map line_of steps.now)
-        (K.state sink.old).written (K.state sink.new).written) }
-    ensures faults { CountsWrite (result ≡ Err MixError.WriteFault)
-        (K.state sink.old) (K.state sink.new) }
-{
-    let mut piece = Vec::new(alloc);
-    for &step in steps {
-        append_step(&mut piece, step)?;
-        if piece.len() >= PIECE {
-            hand_on(sink, &piece)?;
-            piece.clear();
-        }
-    }
-    hand_on(sink, &piece)
-}
-
-/// Hands a piece on until the sink has taken all of it.
-fn hand_on<K: Sink>(sink: &mut K, piece: &[u8]) -> Result<(), MixError>
-    ensures ok { OnOk result
-        ((K.state sink.new).written ≡ append_known (K.state sink.old).written piece.now) }
-    ensures err { OnErr result
-        (TakesFront piece.now (K.state sink.old).written (K.state sink.new).written) }
-    ensures faults { CountsWrite (result ≡ Err MixError.WriteFault)
-        (K.state sink.old) (K.state sink.new) }
-{
-    match write_all(sink, piece) {
+    let Ok(text) = mix_text(alloc, mix, load, ops, callers, seed) else {
+        return Err(MixError::Memory);
+    };
+    match write_all(sink, &text) {
         Ok(()) => Ok(()),
         Err(_) => Err(MixError::WriteFault),
     }
+}
+
+/// The lines of steps.
+fn text_of(alloc: Global, steps: &[Step]) -> Result<Vec<u8>, AllocError>
+    ensures { IfOk result (λ text. text.items ≡ flat_map line_of steps.now) }
+{
+    let mut text = Vec::new(alloc);
+    for &step in steps {
+        append_step(&mut text, step)?;
+    }
+    Ok(text)
 }
 
 /// Appends the line of a step.

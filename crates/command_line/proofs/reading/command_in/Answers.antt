@@ -1,6 +1,6 @@
 use Rattle.std.proofs.Common.{◌∙◌, Some, ap, sym}
 use Rattle.clap.specs.Words.{found_of}
-use Rattle.command_line.specs.Grammar.{bytes_name, mode_name}
+use Rattle.command_line.specs.Grammar.{mode_name}
 use Rattle.command_line.proofs.ReadingLaws.{row_text}
 use Rattle.command_line.proofs.reading.command_in.Goals as goal
 
@@ -15,24 +15,13 @@ returns-in_err-mode-clause-none c =
     rw c.from_residual-in_err-mode.ensures (λ command asks.
     let both = sym asks.mode ∙ given in c.in_err-mode.ensures.none command.mode (cc))
 
-pub returns-in_err-get_str-2-clause-none : goal.returns-in_err-get_str-2-clause-none
-returns-in_err-get_str-2-clause-none c =
-    let absent = row_text (found_of c.args.matches.now) bytes_name _ c.in_err-get_str-2.ensures in
-    rw c.from_residual-in_err-get_str-2.ensures (λ command asks. rw absent at asks.bytes)
-
-pub returns-in_err-bytes-clause-none : goal.returns-in_err-bytes-clause-none
-returns-in_err-bytes-clause-none c =
-    let given = row_text (found_of c.args.matches.now) bytes_name _ c.in_ok-get_str-2.ensures in
-    rw c.from_residual-in_err-bytes.ensures (λ command asks.
-    let number = rw given at asks.bytes in c.in_err-bytes.ensures number.0)
-
 pub returns-clause-some : goal.returns-clause-some
 returns-clause-some c =
-    let mode_given = row_text (found_of c.args.matches.now) mode_name _ c.in_ok-get_str.ensures in
-    let bytes_given = row_text (found_of c.args.matches.now) bytes_name _ c.in_ok-get_str-2.ensures in
+    let given = row_text (found_of c.args.matches.now) mode_name _ c.in_ok-get_str.ensures in
     record {
-      mode = mode_given ∙ ap Some (sym c.in_ok-mode.ensures.some);
-      bytes = rw bytes_given c.in_ok-bytes.ensures;
+      mode = given ∙ ap Some (sym c.in_ok-mode.ensures.some);
+      bytes = c.in_ok-bytes.ensures;
       numbers = c.in_ok-limits.ensures.0;
       limits = c.in_ok-limits.ensures.1;
+      recipe = c.in_ok-recipe.ensures.some;
     }

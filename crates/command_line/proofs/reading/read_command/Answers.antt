@@ -1,6 +1,8 @@
 use Rattle.std.proofs.Common.{◌∙◌, ap, sym}
+use Rattle.std.proofs.lemmas.Result.{IfOk-weaker}
 use Rattle.clap.specs.Words.{App, is_simple, is_simple_and_free, fault_of, matches_of}
 use Rattle.command_line.specs.Command.{texts_of}
+use Rattle.command_line.proofs.CommandLaws.{keeps_bounds}
 use Rattle.command_line.proofs.GrammarLaws.{memory_alone, the_app-is_free, the_app-is_simple}
 use Rattle.command_line.proofs.ReadingLaws.{found_command, no_command}
 use Rattle.command_line.proofs.reading.read_command.Goals as goal
@@ -20,6 +22,10 @@ returns-clause-ok c =
     let taken = sym (ap (λ (app : App). fault_of app words) is)
     ∙ c.in_ok-matches.ensures.kinds (ap is_simple_and_free is ∙ the_app-is_free) in
     rw c.ok_or.ensures.value (found_command words _ found _ taken c.command_in.ensures.some)
+
+pub returns-clause-bounds : goal.returns-clause-bounds
+returns-clause-bounds c =
+    IfOk-weaker c.ok_or.result _ _ (keeps_bounds (texts_of c.args.words.now)) (returns-clause-ok c)
 
 pub returns-clause-usage_only_for_no_command : goal.returns-clause-usage_only_for_no_command
 returns-clause-usage_only_for_no_command c = λ usage.

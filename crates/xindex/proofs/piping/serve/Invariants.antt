@@ -1,7 +1,7 @@
 -- The name of the index is that of the one that is served.
 use Rattle.std.proofs.Common.{Some}
 use Rattle.xindex_core.specs.Passes.{name_of, opening_with}
-use Rattle.xindex.proofs.top.pipe.Given as goal
+use Rattle.xindex.proofs.piping.serve.Given as goal
 
 abbrev pub ghosts-serve_alone : goal.ghosts-serve_alone
 ghosts-serve_alone g a =
