@@ -1,0 +1,7 @@
+pub mod Lists
+pub mod Opened
+pub mod Places
+pub mod Keys
+pub mod Ranges
+pub mod Changes
+pub mod Sizes
