@@ -1,19 +1,29 @@
 //! A whole transcript, phase by phase.
+use std::alloc::{AllocError, Global};
 use std::test::Fail;
-use trace_text::{append_phase, append_rows};
+use trace_text::{Replies, append_phase, append_rows};
 use wire_commands::Reply;
+
+// The replies to a caller's calls.
+fn replies_of(alloc: Global, list: &[Reply]) -> Result<Replies, AllocError> {
+    let mut replies = Replies::with_room(alloc, list.len())?;
+    for &reply in list {
+        replies.push(reply);
+    }
+    Ok(replies)
+}
 
 #[test]
 fn a_transcript_leaves_out_who_made_no_call(rt: HostRuntime) -> Result<(), Fail> {
     let first = [
-        Vec::from_slice(rt.alloc(), &[Reply::New, Reply::Value(7)])?,
-        Vec::new(rt.alloc()),
-        Vec::from_slice(rt.alloc(), &[Reply::Old(3)])?,
+        replies_of(rt.alloc(), &[Reply::New, Reply::Value(7)])?,
+        replies_of(rt.alloc(), &[])?,
+        replies_of(rt.alloc(), &[Reply::Old(3)])?,
     ];
-    let no_call = [Vec::new(rt.alloc()), Vec::new(rt.alloc())];
+    let no_call = [replies_of(rt.alloc(), &[])?, replies_of(rt.alloc(), &[])?];
     let last = [
-        Vec::new(rt.alloc()),
-        Vec::from_slice(rt.alloc(), &[Reply::NoValue])?,
+        replies_of(rt.alloc(), &[])?,
+        replies_of(rt.alloc(), &[Reply::NoValue])?,
     ];
     let mut text = Vec::new(rt.alloc());
     append_phase(&mut text, 0, &first)?;

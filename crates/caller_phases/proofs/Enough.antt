@@ -1,40 +1,33 @@
 -- Where there is enough for all calls of a trace, none is refused: what changed is no more than what was called.
-use Rattle.std.proofs.Common.{◌≡◌, ◌≢◌, ℕ, zero, suc, ◌+◌, ◌<◌, ◌≤◌, Bool, true, false, cond, ◌==◌}
-use Rattle.std.proofs.Common.{List, [], ◌∷◌, ◌++◌, length, get_or, replicate, Option, Some, None}
-use Rattle.std.proofs.Common.{refl, sym, ap, ◌∙◌, subst, arith, eqb-true, eq-eqb}
-use Rattle.std.specs.Prelude.{slice_get, is_none}
+use Rattle.std.proofs.Common.{◌≡◌, ℕ, zero, suc, ◌+◌, ◌<◌, ◌≤◌, Bool, true, false, cond, ◌==◌}
+use Rattle.std.proofs.Common.{List, [], ◌∷◌, ◌++◌, length, get_or, replicate, Some}
+use Rattle.std.proofs.Common.{refl, sym, ap, ◌∙◌, subst, arith}
+use Rattle.std.specs.Prelude.{slice_get}
 use Rattle.std.specs.List.{AllByRecursion}
-use Rattle.std.proofs.lemmas.Bool.{eqb-false}
 use Rattle.std.proofs.lemmas.List.{length-replicate}
 use Rattle.map_model.specs.declared.calls.Call.{Call}
 use Rattle.map_model.specs.declared.calls.Call.TheVariants as call
 use Rattle.map_model.specs.declared.calls.Answer.{Answer}
 use Rattle.map_model.specs.declared.calls.Answer.TheVariants.{Value, Old, Near, Full, Worn}
-use Rattle.map_model.specs.declared.calls.Near.TheVariants.{Row, Gap}
 use Rattle.map_model.specs.declared.entries.Change.{Change}
-use Rattle.map_model.specs.declared.entries.Change.TheVariants as change
-use Rattle.map_model.specs.declared.entries.Entry.{Entry}
-use Rattle.map_model.specs.declared.entries.Entry.TheVariants.{Made, Look}
-use Rattle.map_model.specs.Answer.{entry_of}
-use Rattle.map_model.specs.History.{History, after, caller_of, changes_at, changes_by, inserts, is_inserting}
+use Rattle.map_model.specs.History.{History, caller_of, changes_at, changes_by, inserts}
 use Rattle.map_model.specs.Logs.{Log, changes_of, place_of}
-use Rattle.map_model.specs.Map.{Map, key_of, look}
+use Rattle.map_model.specs.Map.{Map}
 use Rattle.linearization.specs.Linearization.{AreLogsOf}
 use Rattle.word_layout.specs.declared.limits.Limits.{Limits}
 use Rattle.index_machine.specs.Forms.{last_version}
 use Rattle.wire_commands.specs.declared.request.Request.{Request}
 use Rattle.wire_commands.specs.declared.request.Request.TheVariants as request
 use Rattle.wire_commands.specs.declared.reply.Reply.{Reply}
-use Rattle.wire_commands.specs.declared.reply.Reply.TheVariants as reply
-use Rattle.line_session.specs.Enough.{HasNoRefusal, IsNoRefusal, asked, may_change, may_insert}
+use Rattle.line_session.specs.Enough.{HasNoRefusal, asked, may_change, may_insert}
 use Rattle.line_session.specs.Session.{Exchange, Session, Tells}
 use Rattle.line_session.proofs.Weighing.{Bounds, IsGiven, all_append, changes_few, entry_weighs, inserts_few, one_bounds, one_of}
 use Rattle.line_session.proofs.Weighing.{put_bounds, put_of, reply_given, total, total_append, weight}
 use Rattle.trace_text.specs.declared.lines.Line.{Line}
 use Rattle.trace_text.specs.declared.lines.Line.TheVariants as line
 use Rattle.caller_phases.proofs.Sums.{only, summed, summed_add, summed_le, summed_one, summed_only}
-use Rattle.caller_phases.specs.Calls.{calls_in, calls_of, onto_first, phases_of}
-use Rattle.caller_phases.specs.Enough.{EnoughRefusesNothing, HasEnough, HaveNoRefusal, called}
+use Rattle.caller_phases.specs.Calls.{calls_in, calls_of, phases_of}
+use Rattle.caller_phases.specs.Enough.{EnoughRefusesNothing, HaveNoRefusal, called}
 use Rattle.caller_phases.specs.Explained.{AddsWithin, AnswersWithin, ArePhases, GoesOnTo, IsPhase}
 
 -- ---- numbers of changes and of calls ----
@@ -88,29 +81,12 @@ abbrev called_in : (Request → ℕ) → List (List Line) → ℕ
 called_in w [] = 0
 called_in w (own ∷ phases) = called w own + called_in w phases
 
-called_first : (w : Request → ℕ) (l : Line) (phases : List (List Line)) →
-    called_in w (onto_first l phases) ≡ called w (l ∷ []) + called_in w phases
-called_first w line.Skip [] = refl
-called_first w line.Phase [] = refl
-called_first w (line.Caller c) [] = refl
-called_first w (line.Call r) [] = refl
-called_first w line.Skip (own ∷ phases) = omega arith
-called_first w line.Phase (own ∷ phases) = omega arith
-called_first w (line.Caller c) (own ∷ phases) = omega arith
-called_first w (line.Call r) (own ∷ phases) = omega arith
-
 called_all : (w : Request → ℕ) (lines : List Line) → called_in w (phases_of lines) ≡ called w lines
 called_all w [] = refl
 called_all w (line.Phase ∷ lines) = let rest = called_all w lines in omega arith
-called_all w (line.Skip ∷ lines) =
-    let first = called_first w line.Skip (phases_of lines) in
-    let rest = called_all w lines in omega arith
-called_all w (line.Caller c ∷ lines) =
-    let first = called_first w (line.Caller c) (phases_of lines) in
-    let rest = called_all w lines in omega arith
-called_all w (line.Call r ∷ lines) =
-    let first = called_first w (line.Call r) (phases_of lines) in
-    let rest = called_all w lines in omega arith
+called_all w (line.Skip ∷ lines) = called_all w lines
+called_all w (line.Caller c ∷ lines) = called_all w lines
+called_all w (line.Call r ∷ lines) = let rest = called_all w lines in omega arith
 
 -- ---- one caller ----
 

@@ -1,24 +1,24 @@
 -- Who calls what, phase by phase, in the lines of a trace.
-use Rattle.std.specs.Prelude.{ℕ, Bool, true, false, List, [], ◌∷◌, cond, ◌==◌}
+use Rattle.std.specs.Prelude.{ℕ, List, [], ◌∷◌, cond, ◌==◌}
 use Rattle.wire_commands.specs.declared.request.Request.{Request}
 use Rattle.trace_text.specs.declared.lines.Line.{Line}
 use Rattle.trace_text.specs.declared.lines.Line.TheVariants.{Phase, Caller, Call}
 
--- whether the line is the mark between two phases
-abbrev pub is_mark : Line → Bool
-is_mark Phase = true
-is_mark line = false
+-- the lines of the first phase, which a mark ends
+abbrev pub first_phase : List Line → List Line
+first_phase [] = []
+first_phase (Phase ∷ lines) = []
+first_phase (line ∷ lines) = line ∷ first_phase lines
 
--- the line stands before those of the first phase
-abbrev pub onto_first : Line → List (List Line) → List (List Line)
-onto_first line [] = (line ∷ []) ∷ []
-onto_first line (own ∷ phases) = (line ∷ own) ∷ phases
+-- the lines of each later phase: one begins behind each mark
+abbrev pub later_phases : List Line → List (List Line)
+later_phases [] = []
+later_phases (Phase ∷ lines) = first_phase lines ∷ later_phases lines
+later_phases (line ∷ lines) = later_phases lines
 
--- the lines of each phase: a mark ends one, and the next begins behind it
+-- the lines of each phase
 abbrev pub phases_of : List Line → List (List Line)
-phases_of [] = [] ∷ []
-phases_of (Phase ∷ lines) = [] ∷ phases_of lines
-phases_of (line ∷ lines) = onto_first line (phases_of lines)
+phases_of lines = first_phase lines ∷ later_phases lines
 
 -- what a caller calls in the lines of a phase, of which the first are calls of the present caller
 abbrev pub calls_of : ℕ → ℕ → List Line → List Request

@@ -1,5 +1,5 @@
 -- What one caller does in a phase.
-use Rattle.std.specs.Prelude.{◌≡◌, ◌≤◌, List, [], length, vec_capacity}
+use Rattle.std.specs.Prelude.{◌≡◌, ◌≤◌, List, [], length}
 use Rattle.crossbeam_utils.specs.Padded.{padded_value}
 use Rattle.wire_commands.specs.declared.reply.Reply.{Reply}
 use Rattle.line_session.specs.Session.{Session}
@@ -17,12 +17,12 @@ pass_of w = padded_value w.pass
 
 -- the replies to the worker's calls
 abbrev pub replies_of : Worker → List Reply
-replies_of w = w.replies.items
+replies_of w = w.replies.replies
 
 -- the worker has no replies yet, and room for those to all calls that its caller makes in these lines
 pub record IsReadyFor (lines : List Line) (w : Worker) : Type 0 where
   pub none : replies_of w ≡ []
-  pub room : length (calls_in (number_of (pass_of w)) lines) ≤ vec_capacity w.replies
+  pub room : length (calls_in (number_of (pass_of w)) lines) ≤ w.replies.room
 
 -- the worker made its caller's calls of these lines, one after another, and has the replies
 pub record HasWorked (i : Index) (lines : List Line) (old new : Worker) : Type 0 where

@@ -1,47 +1,56 @@
-//! The lines of a trace, cut into phases, and what each caller calls in one.
-ghost use Rattle.std.specs.Prelude.{◌≡◌, ◌<◌, ◌≤◌, ℕ, [], ◌∷◌, MatchOption, true, false, length, slice_index_or};
-ghost use Rattle.trace_text.specs.declared.lines.Line.{Line};
-ghost use Rattle.caller_phases.specs.Calls.{calls_in, is_mark, phases_of};
+//! The lines of a trace, phase by phase, and what each caller calls in one.
+ghost use Rattle.std.specs.Prelude.{◌≡◌, ◌<◌, ℕ, [], ◌∷◌, MatchOption, false, length};
+ghost use Rattle.caller_phases.specs.Calls.{calls_in, first_phase, later_phases, phases_of};
 
-use trace_text::Line;
+use trace_text::{Cursor, Line};
 
-/// The lines of the first phase, and those behind its end, where another begins.
-pub(crate) fn first_phase(lines: &[Line]) -> (&[Line], Option<&[Line]>)
-    ensures { MatchOption result.1 (phases_of lines.now ≡ result.0.now ∷ [])
-        (λ more. (phases_of lines.now ≡ result.0.now ∷ phases_of more.now)
-        × (length more.now < length lines.now)) }
+/// The next line of the first phase, or `None` behind its last.
+pub(crate) fn next_in_phase(lines: &mut Cursor<'_>) -> Option<Line>
+    ensures { MatchOption result (first_phase lines.old ≡ [])
+        (λ line. first_phase lines.old ≡ line ∷ first_phase lines.new) }
 {
-    let (own, rest) = lines.split_at(phase_len(lines));
-    match rest {
-        [_, more @ ..] => (own, Some(more)),
-        _ => (own, None),
+    match lines.next_line() {
+        Some(Line::Phase) => None,
+        line => line,
     }
 }
 
-// How many lines stand before the first mark.
-fn phase_len(lines: &[Line]) -> usize
-    ensures within { result ≤ length lines.now }
-    ensures none { (k : ℕ) (d : Line) → k < result
-        → is_mark (slice_index_or lines.now k d) ≡ false }
-    ensures mark { (d : Line) → result < length lines.now
-        → is_mark (slice_index_or lines.now result d) ≡ true }
+/// The lines behind the first phase, where another begins.
+pub(crate) fn behind_phase<'a>(lines: &Cursor<'a>) -> Option<Cursor<'a>>
+    ensures { MatchOption result (later_phases lines.now ≡ [])
+        (λ more. (later_phases lines.now ≡ phases_of more) × (length more < length lines.now)) }
 {
-    for (number, line) in lines.iter().enumerate() {
+    let mut rest = lines.again();
+    while let Some(line) = rest.next_line() {
         if let Line::Phase = line {
-            return number;
+            return Some(rest);
         }
     }
-    lines.len()
+    None
 }
 
-/// How many calls the caller makes in the lines of a phase.
-pub(crate) fn call_count(caller: u32, lines: &[Line]) -> usize
-    ensures { result ≡ length (calls_in caller lines.now) }
+/// Whether a caller makes a call in the first phase.
+pub(crate) fn has_call(lines: &Cursor<'_>) -> bool
+    ensures { result ≡ false → (caller : ℕ) → calls_in caller (first_phase lines.now) ≡ [] }
 {
+    let mut rest = lines.again();
+    while let Some(line) = next_in_phase(&mut rest) {
+        if let Line::Call(_) = line {
+            return true;
+        }
+    }
+    false
+}
+
+/// How many calls the caller makes in the first phase.
+pub(crate) fn call_count(caller: u32, lines: &Cursor<'_>) -> usize
+    ensures { result ≡ length (calls_in caller (first_phase lines.now)) }
+{
+    let mut rest = lines.again();
     let mut present = 0;
     let mut count = 0;
-    for line in lines {
-        match *line {
+    while let Some(line) = next_in_phase(&mut rest) {
+        match line {
             Line::Caller(next) => present = next,
             Line::Call(_) => {
                 if present == caller {

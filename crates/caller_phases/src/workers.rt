@@ -6,16 +6,17 @@ ghost use Rattle.xindex_core.specs.Answering.{Answers};
 ghost use Rattle.xindex_core.specs.Naming.{IsNameOf};
 ghost use Rattle.xindex_core.specs.Passes.{IsPassOf, caller_with};
 ghost use Rattle.caller_phases.specs.declared.workers.Worker.{Worker};
+ghost use Rattle.caller_phases.specs.Calls.{first_phase};
 ghost use Rattle.caller_phases.specs.Workers.{HasWorked, IsReadyFor, pass_of, replies_of};
 
-use crate::cutting::call_count;
+use crate::cutting::{call_count, has_call, next_in_phase};
 use crossbeam_utils::CachePadded;
 use line_session::{Gate, reply_to};
 use std::alloc::{AllocError, Global};
 use std::sync::{Mutex, Wait};
 use std::thread;
 use std::thread::Threads;
-use trace_text::Line;
+use trace_text::{Cursor, Line, Replies};
 use wire_commands::{Reply, Request};
 use xindex_core::{Index, Name, NamedKeeper, Pass, Waiter};
 
@@ -23,21 +24,22 @@ use xindex_core::{Index, Name, NamedKeeper, Pass, Waiter};
 #[derive(Drop)]
 pub(crate) struct Worker {
     pub(crate) pass: CachePadded<Pass>,
-    pub(crate) replies: Vec<Reply>,
+    pub(crate) replies: Replies,
 }
 
-/// A worker for each pass. All memory that the calls of these lines need is taken here.
+/// A worker for each pass. All memory that the calls of the first phase need is taken here.
 pub(crate) fn workers_for(
     alloc: Global,
-    lines: &[Line],
+    lines: &Cursor<'_>,
     passes: Vec<Pass>,
 ) -> Result<Vec<Worker>, AllocError>
     ensures passes { IfOk result (λ workers. map pass_of workers.items ≡ passes.items) }
-    ensures ready { IfOk result (λ workers. AllByRecursion (IsReadyFor lines.now) workers.items) }
+    ensures ready { IfOk result (λ workers.
+        AllByRecursion (IsReadyFor (first_phase lines.now)) workers.items) }
 {
     let mut workers = Vec::with_capacity(alloc, passes.len())?;
     for pass in passes {
-        let replies = Vec::with_capacity(alloc, call_count(pass.number(), lines))?;
+        let replies = Replies::with_room(alloc, call_count(pass.number(), lines))?;
         workers.push(Worker {
             pass: CachePadded::new(pass),
             replies,
@@ -46,64 +48,69 @@ pub(crate) fn workers_for(
     Ok(workers)
 }
 
-/// Each worker makes its caller's calls, in a thread of its own where one can be made. All come back.
+/// Each worker makes its caller's calls of the first phase, in a thread of its own where one can be made. All come
+/// back. Where there is no call, no thread is made.
 pub(crate) fn work_all<N: Name + Send + Sync, R: Threads + Wait + Copy + Sync, G: Gate + Sync>(
     rt: &R,
     index: &Index,
     keeper: &Mutex<NamedKeeper<N>>,
     gate: &G,
-    lines: &[Line],
+    lines: &Cursor<'_>,
     workers: Vec<Worker>,
 ) -> Result<Vec<Worker>, AllocError>
     requires name { IsNameOf N.table N.opening index.now }
     requires passes { (k : ℕ) (w : Worker) → k < length workers.items
         → w ≡ slice_index_or workers.items k w → IsPassOf index.now (pass_of w) }
     requires ready { (k : ℕ) (w : Worker) → k < length workers.items
-        → w ≡ slice_index_or workers.items k w → IsReadyFor lines.now w }
+        → w ≡ slice_index_or workers.items k w → IsReadyFor (first_phase lines.now) w }
     ensures many { IfOk result (λ done. length done.items ≡ length workers.items) }
     ensures worked { IfOk result (λ done. (k : ℕ) (w d : Worker) → k < length workers.items
-        → HasWorked index.now lines.now (slice_index_or workers.items k w)
+        → HasWorked index.now (first_phase lines.now) (slice_index_or workers.items k w)
         (slice_index_or done.items k d)) }
 {
+    if !has_call(lines) {
+        return Ok(workers);
+    }
     thread::map_vec(
         rt,
         workers,
         &|worker: Worker| -> Worker
             requires name { IsNameOf N.table N.opening index.now }
             requires pass { IsPassOf index.now (pass_of worker) }
-            requires ready { IsReadyFor lines.now worker }
-            ensures { HasWorked index.entry.now lines.entry.now worker result }
+            requires ready { IsReadyFor (first_phase lines.now) worker }
+            ensures { HasWorked index.entry.now (first_phase lines.entry.now) worker result }
         { work(rt, index, keeper, gate, lines, worker) },
     )
 }
 
-// Makes the calls of the worker's caller. Each waits at the gate, under the caller's number and its own, from 0,
-// before it is asked, and takes effect where its last try does.
+// Makes the calls of the worker's caller in the first phase. Each waits at the gate, under the caller's number and its
+// own, from 0, before it is asked, and takes effect where its last try does.
 fn work<N: Name, R: Wait + Copy, G: Gate>(
     rt: &R,
     index: &Index,
     keeper: &Mutex<NamedKeeper<N>>,
     gate: &G,
-    lines: &[Line],
+    lines: &Cursor<'_>,
     worker: Worker,
 ) -> Worker
     requires name { IsNameOf N.table N.opening index.now }
     requires pass { IsPassOf index.now (pass_of worker) }
-    requires ready { IsReadyFor lines.now worker }
-    ensures { HasWorked index.now lines.now worker result }
+    requires ready { IsReadyFor (first_phase lines.now) worker }
+    ensures { HasWorked index.now (first_phase lines.now) worker result }
 {
     let Worker { pass, mut replies } = worker;
     let pass = pass.into_inner();
     let caller = pass.number();
     let mut waiter = Waiter::new(index, pass, keeper);
+    let mut rest = lines.again();
     let mut present = 0;
-    for line in lines {
-        match *line {
+    while let Some(line) = next_in_phase(&mut rest) {
+        match line {
             Line::Caller(next) => present = next,
             Line::Call(request) => {
                 if present == caller {
                     gate.before(rt, u64::from(caller), replies.len() as u64);
-                    replies.push(ask(rt, &mut waiter, request)).unwrap();
+                    replies.push(ask(rt, &mut waiter, request));
                 }
             }
             Line::Phase | Line::Skip => {}
@@ -128,9 +135,9 @@ fn ask<N: Name, R: Wait + Copy>(rt: &R, waiter: &mut Waiter<'_, N>, request: Req
 pub(crate) fn parted(
     alloc: Global,
     workers: Vec<Worker>,
-) -> Result<(Vec<Pass>, Vec<Vec<Reply>>), AllocError>
+) -> Result<(Vec<Pass>, Vec<Replies>), AllocError>
     ensures passes { IfOk result (λ both. both.0.items ≡ map pass_of workers.items) }
-    ensures replies { IfOk result (λ both. map (λ own. own.items) both.1.items
+    ensures replies { IfOk result (λ both. map (λ own. own.replies) both.1.items
         ≡ map replies_of workers.items) }
 {
     let mut passes = Vec::with_capacity(alloc, workers.len())?;

@@ -1,4 +1,6 @@
 //! The phases of a trace, run by callers in threads of their own.
+ghost use Rattle.trace_text.specs.Lines.{IsCall};
+
 use std::alloc::{AllocError, Global};
 use std::process::Abort;
 use std::sync::atomic::{AtomicBool, Ordering};
@@ -6,7 +8,7 @@ use std::sync::{Arc, Wait};
 use std::test::Fail;
 use std::thread;
 use std::thread::Threads;
-use trace_text::{Line, read_trace};
+use trace_text::{Line, Trace, read_trace};
 use wire_commands::Request;
 use word_layout::Limits;
 use xindex::{Gate, NoGate, Ran, run_phases};
@@ -19,9 +21,6 @@ const TRACE: &[u8] =
 const TRANSCRIPT: &[u8] =
     b"phase 1\ncaller 0\nnew\ncaller 1\nnew\nphase 2\ncaller 0\nvalue 20\ncaller 1\nvalue 10\n";
 
-// No trace here that is read from a text has more lines.
-const MOST_LINES: usize = 100;
-
 // How often a held caller yields at most.
 const YIELDS: u32 = 10_000_000;
 
@@ -32,40 +31,32 @@ const CALLS: u32 = 1000;
 
 const PHASES: [(u32, u32); 3] = [(0, 400), (400, 700), (700, CALLS)];
 
-// The lines of the trace of two callers.
-fn lines_of_two(rt: &impl Abort, alloc: Global) -> Result<Vec<Line>, AllocError> {
+// The trace of two callers.
+fn trace_of_two(rt: &impl Abort, alloc: Global) -> Trace {
     let Ok(trace) = read_trace(alloc, TRACE, 4) else {
         panic!(rt; "the trace is good, and there is memory");
     };
-    let mut lines = Vec::new(alloc);
-    let mut cursor = trace.cursor();
-    for _ in 0..MOST_LINES {
-        let Some(line) = cursor.next_line() else {
-            break;
-        };
-        lines.push(line)?;
-    }
-    Ok(lines)
+    trace
 }
 
-// A new index, over which the lines were run.
+// A new index, over which the trace was run.
 fn run<R: Threads + Wait + Copy + Send + Sync + Abort + 'static, G: Gate + Send + Sync + 'static>(
     rt: &R,
     alloc: Global,
-    lines: &[Line],
+    trace: &Trace,
     gate: Arc<G>,
 ) -> Result<Ran, AllocError> {
     let Ok(opened) = Index::open(alloc, Limits::standard(), &[]) else {
         panic!(rt; "the limits are kept, and there is memory");
     };
-    run_phases(rt, alloc, opened, lines, gate)
+    run_phases(rt, alloc, opened, trace, gate)
 }
 
 #[test]
 fn a_phase_sees_what_the_one_before_it_changed(rt: HostRuntime) -> Result<(), Fail> {
-    let lines = lines_of_two(&rt, rt.alloc())?;
+    let trace = trace_of_two(&rt, rt.alloc());
     let gate = Arc::new(rt.alloc(), NoGate)?;
-    let ran = run(&rt, rt.alloc(), &lines, gate)?;
+    let ran = run(&rt, rt.alloc(), &trace, gate)?;
     assert_eq!(rt; ran.transcript.as_slice(), TRANSCRIPT);
     Ok(())
 }
@@ -97,7 +88,7 @@ impl Gate for HoldsFirst {
 
 #[test]
 fn two_callers_are_in_their_calls_at_once(rt: HostRuntime) -> Result<(), Fail> {
-    let lines = lines_of_two(&rt, rt.alloc())?;
+    let trace = trace_of_two(&rt, rt.alloc());
     let gate = Arc::new(
         rt.alloc(),
         HoldsFirst {
@@ -106,14 +97,16 @@ fn two_callers_are_in_their_calls_at_once(rt: HostRuntime) -> Result<(), Fail> {
         },
     )?;
     let held = Arc::try_clone(&gate)?;
-    let ran = run(&rt, rt.alloc(), &lines, gate)?;
+    let ran = run(&rt, rt.alloc(), &trace, gate)?;
     assert!(rt; !held.was_let_go.load(Ordering::SeqCst));
     assert_eq!(rt; ran.transcript.as_slice(), TRANSCRIPT);
     Ok(())
 }
 
 // What the caller asks in a round: no two of its puts have one value.
-fn request_of(caller: u32, round: u32) -> Request {
+fn request_of(caller: u32, round: u32) -> Request
+    ensures { IsCall result }
+{
     let value = u64::from(caller)
         .wrapping_mul(u64::from(CALLS))
         .wrapping_add(u64::from(round));
@@ -126,18 +119,18 @@ fn request_of(caller: u32, round: u32) -> Request {
 }
 
 // The trace of four callers in three phases.
-fn lines_of_four(alloc: Global) -> Result<Vec<Line>, AllocError> {
-    let mut lines = Vec::new(alloc);
+fn trace_of_four(alloc: Global) -> Result<Trace, AllocError> {
+    let mut trace = Trace::new(alloc);
     for (first, end) in PHASES {
-        lines.push(Line::Phase)?;
+        trace.push(Line::Phase)?;
         for caller in 0..4 {
-            lines.push(Line::Caller(caller))?;
+            trace.push(Line::Caller(caller))?;
             for round in first..end {
-                lines.push(Line::Call(request_of(caller, round)))?;
+                trace.push(Line::Call(request_of(caller, round)))?;
             }
         }
     }
-    Ok(lines)
+    Ok(trace)
 }
 
 // What a call saw of its key: the value before it and behind it.
@@ -280,9 +273,9 @@ fn goes_on(all: &[Seen], values: &[u64], caller: u32) -> bool {
 
 #[test]
 fn what_four_callers_saw_in_three_phases_has_one_order(rt: HostRuntime) -> Result<(), Fail> {
-    let lines = lines_of_four(rt.alloc())?;
+    let trace = trace_of_four(rt.alloc())?;
     let gate = Arc::new(rt.alloc(), NoGate)?;
-    let ran = run(&rt, rt.alloc(), &lines, gate)?;
+    let ran = run(&rt, rt.alloc(), &trace, gate)?;
     let Ok(transcript) = std::str::from_utf8(&ran.transcript) else {
         panic!(&rt; "a transcript is text");
     };

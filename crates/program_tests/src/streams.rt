@@ -1,8 +1,10 @@
 //! Readers and writers that err, and what the real ends tell of them.
 use line_session::{Gave, Sink, SinkFailed, Source, Took};
-use std::io::{Error, ErrorKind, Read, Result, Write};
+use std::fmt::Display;
+use std::io::{Eprint, Error, ErrorKind, IsTerminal, Read, Result, Write};
+use std::sync::atomic::{AtomicU64, Ordering};
 use std::test::Fail;
-use xindex::{StandardInput, StandardOutput};
+use xindex::{Gate, Progress, StandardInput, StandardOutput};
 
 // A reader of which each read errs.
 #[derive(Drop)]
@@ -122,5 +124,45 @@ fn what_is_gathered_is_flushed_where_there_is_no_room(
     assert_eq!(rt; sink.faults(), 0);
     assert_eq!(rt; sink.take(b"none\n"), Gave::Failed);
     assert_eq!(rt; sink.faults(), 1);
+    Ok(())
+}
+
+// A stream that counts the lines that are told on it.
+#[derive(Drop)]
+struct Counted<'a> {
+    lines: &'a AtomicU64,
+    is_terminal: bool,
+}
+
+impl<'a> Eprint for Counted<'a> {
+    fn eprint<D: Display + Drop>(&self, _value: D) -> Result<()> {
+        Ok(())
+    }
+
+    fn eprintln<D: Display + Drop>(&self, _value: D) -> Result<()> {
+        self.lines.fetch_add(1, Ordering::SeqCst);
+        Ok(())
+    }
+}
+
+impl<'a> IsTerminal for Counted<'a> {
+    fn is_terminal(&self) -> bool {
+        self.is_terminal
+    }
+}
+
+#[test]
+fn progress_is_told_to_a_terminal_alone(rt: HostRuntime) -> std::result::Result<(), Fail> {
+    for (is_terminal, told) in [(true, 2), (false, 0)] {
+        let lines = AtomicU64::new(0);
+        let gate = Progress::new(Counted {
+            lines: &lines,
+            is_terminal,
+        });
+        for request in [0, 1, 99_999, 100_000, 100_001, 200_000] {
+            gate.before(&rt, 3, request);
+        }
+        assert_eq!(rt; lines.load(Ordering::SeqCst), told);
+    }
     Ok(())
 }

@@ -5,6 +5,8 @@
 
 mod input;
 mod output;
+mod progress;
 
 pub use input::StandardInput;
 pub use output::StandardOutput;
+pub use progress::Progress;

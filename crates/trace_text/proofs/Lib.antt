@@ -1,6 +1,7 @@
 pub mod LineLaws
 pub mod TraceLaws
 pub mod KeptLaws
+pub mod ReplyLaws
 pub mod TextLaws
 pub mod TranscriptLaws
 pub mod WrittenLaws

@@ -4,7 +4,7 @@ use Rattle.std.specs.List.{AllByRecursion, AllZip, filter}
 use Rattle.trace_text.specs.declared.lines.Line.{Line}
 use Rattle.trace_text.specs.Laws.{IsReadOnce}
 use Rattle.trace_text.specs.Lines.{Says}
-use Rattle.trace_text.specs.Traces.{HasFirstBad, IsTrace, is_told}
+use Rattle.trace_text.specs.Traces.{is_told}
 use Rattle.trace_text.proofs.LineLaws.{lines_say_one_thing}
 use Rattle.trace_text.proofs.TraceLaws.{same_lines}
 

@@ -29,13 +29,12 @@ caller_text-some caller replies some =
     (lines-some replies some)
 
 -- a caller's replies were written under its number
-pub caller_written : (old mid new : List ℕ) (caller n : ℕ) (replies : List Reply)
+pub caller_written : (old mid new : List ℕ) (caller : ℕ) (replies : List Reply)
     → mid ≡ old ++ number_line (codes "caller ") caller
-    → new ≡ mid ++ flat_map line_of (take n replies) → length replies ≤ n → 0 < length replies
+    → new ≡ mid ++ flat_map line_of replies → 0 < length replies
     → new ≡ old ++ caller_text caller replies
-caller_written old mid new caller n replies head body all some =
-    body ∙ ap (λ l. mid ++ flat_map line_of l) (take_all n replies all)
-    ∙ ap (λ l. l ++ flat_map line_of replies) head
+caller_written old mid new caller replies head body some =
+    body ∙ ap (λ l. l ++ flat_map line_of replies) head
     ∙ append_assoc old (number_line (codes "caller ") caller) (flat_map line_of replies)
     ∙ ap (λ l. old ++ l)
     (sym (caller_text-some caller replies (λ none. absurd (omega (arith, ap length none, some)))))

@@ -1,6 +1,8 @@
 pub mod Lines
 pub mod Traces
+pub mod Halves
 pub mod Kept
+pub mod KeptReplies
 pub mod Text
 pub mod Transcripts
 pub mod Counts

@@ -1,18 +1,22 @@
 //! The lines of a trace in memory: what kind each is, and the numbers that it has.
 //!
-//! A line takes a byte, and a word for each of its numbers. So no text has lines that take three times its size.
-ghost use Rattle.std.specs.Prelude.{◌≡◌, [], ◌∷◌, ◌++◌, MatchOption, OnOk, OnErr, IfOk};
+//! A line takes a byte, and four for each of its numbers, or eight where one of them has more than 32 bits. So no text has
+//! lines that take much more than it.
+ghost use Rattle.std.specs.Prelude.{◌≡◌, ◌<◌, ◌^◌, [], ◌∷◌, ◌++◌, MatchOption, OnOk, OnErr, IfOk, length};
 ghost use Rattle.std.specs.List.{filter};
+ghost use Rattle.wire_commands.specs.declared.request.Request.TheVariants.{Get, Put, Remove};
+ghost use Rattle.trace_text.specs.declared.lines.Line.TheVariants.{Call};
 ghost use Rattle.trace_text.specs.Kept.{AreKept, lines_of};
 ghost use Rattle.trace_text.specs.Lines.{IsLine};
 ghost use Rattle.trace_text.specs.Traces.{is_told};
 
+use crate::halves::{halves, whole};
 use crate::lines::Line;
 use std::alloc::{AllocError, Global};
 use std::marker::Model;
 use wire_commands::Request;
 
-/// What a line is, without its numbers.
+/// What a line is, without its numbers. Where it is wide, each of them is in two words.
 #[derive(Clone, Copy, Debug, PartialEq, Eq)]
 enum Kind {
     /// A phase ends, and the next one begins.
@@ -21,10 +25,13 @@ enum Kind {
     Caller,
     /// It has a key.
     Get,
+    WideGet,
     /// It has a key and a value.
     Put,
+    WidePut,
     /// It has a key.
     Remove,
+    WideRemove,
 }
 
 /// The lines of a trace. Those that are skipped are left out.
@@ -33,7 +40,7 @@ enum Kind {
 #[derive(Drop)]
 pub struct Trace {
     kinds: Vec<Kind>,
-    numbers: Vec<u64>,
+    words: Vec<u32>,
 }
 
 impl Model for Trace {
@@ -43,9 +50,9 @@ impl Model for Trace {
 
     ghost Value = { List Line };
 
-    ghost view = { λ t. lines_of t.kinds.items t.numbers.items };
+    ghost view = { λ t. lines_of t.kinds.items t.words.items };
 
-    ghost invariant = { λ t. AreKept t.kinds.items t.numbers.items };
+    ghost invariant = { λ t. AreKept t.kinds.items t.words.items };
 }
 
 impl Trace {
@@ -55,21 +62,17 @@ impl Trace {
     {
         Trace {
             kinds: Vec::new(alloc),
-            numbers: Vec::new(alloc),
+            words: Vec::new(alloc),
         }
     }
 
-    /// A trace without lines, and with room for so many lines and numbers.
-    pub(crate) fn with_room(
-        alloc: Global,
-        lines: usize,
-        numbers: usize,
-    ) -> Result<Trace, AllocError>
+    /// A trace without lines, and with room for so many lines, and words of their numbers.
+    pub(crate) fn with_room(alloc: Global, lines: usize, words: usize) -> Result<Trace, AllocError>
         ensures { IfOk result (λ trace. trace ≡ []) }
     {
         Ok(Trace {
             kinds: Vec::with_capacity(alloc, lines)?,
-            numbers: Vec::with_capacity(alloc, numbers)?,
+            words: Vec::with_capacity(alloc, words)?,
         })
     }
 
@@ -82,24 +85,35 @@ impl Trace {
         match line {
             Line::Skip => Ok(()),
             Line::Phase => self.keep(Kind::Phase, &[]),
-            Line::Caller(caller) => self.keep(Kind::Caller, &[u64::from(caller)]),
+            Line::Caller(caller) => self.keep(Kind::Caller, &[caller]),
             Line::Call(request) => match request {
-                Request::Get { key } => self.keep(Kind::Get, &[key]),
-                Request::Put { key, value } => self.keep(Kind::Put, &[key, value]),
-                Request::Remove { key } => self.keep(Kind::Remove, &[key]),
+                Request::Get { key } => match halves(key) {
+                    (0, key) => self.keep(Kind::Get, &[key]),
+                    (high, low) => self.keep(Kind::WideGet, &[high, low]),
+                },
+                Request::Put { key, value } => match (halves(key), halves(value)) {
+                    ((0, key), (0, value)) => self.keep(Kind::Put, &[key, value]),
+                    ((high, low), (above, below)) => {
+                        self.keep(Kind::WidePut, &[high, low, above, below])
+                    }
+                },
+                Request::Remove { key } => match halves(key) {
+                    (0, key) => self.keep(Kind::Remove, &[key]),
+                    (high, low) => self.keep(Kind::WideRemove, &[high, low]),
+                },
                 Request::Quit | Request::Bad(_) => unreachable!(),
             },
         }
     }
 
-    /// Appends a line of this kind, with its numbers.
-    fn keep(&mut self, kind: Kind, numbers: &[u64]) -> Result<(), AllocError>
-        requires { AreKept (kind ∷ []) numbers.now }
-        ensures ok { OnOk result (self.new ≡ self.old ++ lines_of (kind ∷ []) numbers.now) }
+    /// Appends a line of this kind, with the words of its numbers.
+    fn keep(&mut self, kind: Kind, words: &[u32]) -> Result<(), AllocError>
+        requires { AreKept (kind ∷ []) words.now }
+        ensures ok { OnOk result (self.new ≡ self.old ++ lines_of (kind ∷ []) words.now) }
         ensures err { OnErr result (self.new ≡ self.old) }
     {
         self.kinds.reserve(1)?;
-        self.numbers.extend_from_slice(numbers)?;
+        self.words.extend_from_slice(words)?;
         // The room was reserved above.
         self.kinds.push(kind).unwrap();
         Ok(())
@@ -107,11 +121,12 @@ impl Trace {
 
     /// A cursor before the first line.
     pub fn cursor(&self) -> Cursor<'_>
-        ensures { result ≡ self.now }
+        ensures lines { result ≡ self.now }
+        ensures few { length self.now < 2 ^ 63 }
     {
         Cursor {
             kinds: &self.kinds,
-            numbers: &self.numbers,
+            words: &self.words,
         }
     }
 }
@@ -120,7 +135,7 @@ impl Trace {
 #[derive(Drop)]
 pub struct Cursor<'a> {
     kinds: &'a [Kind],
-    numbers: &'a [u64],
+    words: &'a [u32],
 }
 
 impl<'a> Model for Cursor<'a> {
@@ -130,9 +145,9 @@ impl<'a> Model for Cursor<'a> {
 
     ghost Value = { List Line };
 
-    ghost view = { λ c. lines_of c.kinds.now c.numbers.now };
+    ghost view = { λ c. lines_of c.kinds.now c.words.now };
 
-    ghost invariant = { λ c. AreKept c.kinds.now c.numbers.now };
+    ghost invariant = { λ c. AreKept c.kinds.now c.words.now };
 }
 
 impl<'a> Cursor<'a> {
@@ -144,36 +159,55 @@ impl<'a> Cursor<'a> {
         let [kind, kinds @ ..] = self.kinds else {
             return None;
         };
-        let (line, numbers) = match (kind, self.numbers) {
-            (Kind::Phase, numbers) => (Line::Phase, numbers),
-            (Kind::Caller, [caller, numbers @ ..]) => (Line::Caller(*caller as u32), numbers),
-            (Kind::Get, [key, numbers @ ..]) => {
-                (Line::Call(Request::Get { key: *key }), numbers)
+        let (line, words) = match (kind, self.words) {
+            (Kind::Phase, words) => (Line::Phase, words),
+            (Kind::Caller, [caller, words @ ..]) => (Line::Caller(*caller), words),
+            (Kind::Get, [key, words @ ..]) => (get(u64::from(*key)), words),
+            (Kind::WideGet, [high, low, words @ ..]) => (get(whole(*high, *low)), words),
+            (Kind::Put, [key, value, words @ ..]) => {
+                (put(u64::from(*key), u64::from(*value)), words)
             }
-            (Kind::Put, [key, value, numbers @ ..]) => {
-                let put = Request::Put {
-                    key: *key,
-                    value: *value,
-                };
-                (Line::Call(put), numbers)
+            (Kind::WidePut, [high, low, above, below, words @ ..]) => {
+                (put(whole(*high, *low), whole(*above, *below)), words)
             }
-            (Kind::Remove, [key, numbers @ ..]) => {
-                (Line::Call(Request::Remove { key: *key }), numbers)
-            }
+            (Kind::Remove, [key, words @ ..]) => (remove(u64::from(*key)), words),
+            (Kind::WideRemove, [high, low, words @ ..]) => (remove(whole(*high, *low)), words),
             _ => unreachable!(),
         };
         self.kinds = kinds;
-        self.numbers = numbers;
+        self.words = words;
         Some(line)
     }
 
     /// A second cursor at the same place.
     pub fn again(&self) -> Cursor<'a>
-        ensures { result ≡ self.now }
+        ensures lines { result ≡ self.now }
+        ensures few { length self.now < 2 ^ 63 }
     {
         Cursor {
             kinds: self.kinds,
-            numbers: self.numbers,
+            words: self.words,
         }
     }
+}
+
+// The line of a get.
+fn get(key: u64) -> Line
+    ensures { result ≡ Call (Get key) }
+{
+    Line::Call(Request::Get { key })
+}
+
+// The line of a put.
+fn put(key: u64, value: u64) -> Line
+    ensures { result ≡ Call (Put key value) }
+{
+    Line::Call(Request::Put { key, value })
+}
+
+// The line of a removal.
+fn remove(key: u64) -> Line
+    ensures { result ≡ Call (Remove key) }
+{
+    Line::Call(Request::Remove { key })
 }

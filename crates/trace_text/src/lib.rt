@@ -5,9 +5,11 @@
 
 mod appending;
 mod counting;
+mod halves;
 mod keeping;
 mod laws;
 mod lines;
+mod replying;
 mod traces;
 mod transcripts;
 
@@ -18,5 +20,6 @@ pub use laws::{
     each_text_has_its_lines, no_line_says_two_things, no_text_is_two_traces, written_lines_are_read,
 };
 pub use lines::{Line, read_trace_line};
+pub use replying::Replies;
 pub use traces::{TraceError, read_trace};
 pub use transcripts::{append_caller, append_phase, append_rows};

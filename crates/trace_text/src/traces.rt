@@ -65,15 +65,15 @@ pub fn read_trace(alloc: Global, text: &[u8], callers: u32) -> Result<Trace, Tra
 
 /// A trace with room for the lines of a text.
 ///
-/// Each line has a newline, but for the last. None that is kept is shorter than `phase`, and none with a number than
-/// `get 1`; each number takes four bytes and more.
+/// Each line has a newline, but for the last. None that is kept is shorter than `phase`. A line has at most four words of
+/// numbers, and four bytes of text for each of them.
 fn with_room_for(alloc: Global, text: &[u8]) -> Result<Trace, AllocError>
     ensures { IfOk result (λ trace. trace ≡ []) }
 {
     let newlines = text.iter().filter(|&&byte| byte == b'\n').count();
     let lines = newlines.min(text.len() / 6) + 1;
-    let numbers = lines.saturating_mul(2).min(text.len() / 4 + 1);
-    Trace::with_room(alloc, lines, numbers)
+    let words = lines.saturating_mul(4).min(text.len() / 4 + 1);
+    Trace::with_room(alloc, lines, words)
 }
 
 /// The first line of a text, without its newline, and what follows it.

@@ -5,21 +5,17 @@ ghost use Rattle.std.specs.Prelude.{◌≡◌, ◌↔◌, [], ◌++◌, All, OnO
 ghost use Rattle.trace_text.specs.Transcripts.{caller_text, callers_text, phase_text, rows_text};
 ghost use Rattle.trace_text.specs.Transcripts.{AddsPhase, AddsRows};
 
-use crate::appending::{append_number, append_pair, append_reply};
+use crate::appending::{append_number, append_pair};
+use crate::replying::Replies;
 use std::alloc::AllocError;
-use wire_commands::Reply;
 
 /// Appends the replies in a phase, of which each caller has a list, by its number.
 ///
 /// A phase without calls appends nothing. The next one has the number that follows all the same.
-pub fn append_phase(
-    text: &mut Vec<u8>,
-    number: u64,
-    replies: &[Vec<Reply>],
-) -> Result<(), AllocError>
+pub fn append_phase(text: &mut Vec<u8>, number: u64, replies: &[Replies]) -> Result<(), AllocError>
     ensures appends { OnOk result (text.new.items
-        ≡ text.old.items ++ phase_text number (map (λ own. own.items) replies.now)) }
-    ensures goes_on { OnOk result (AddsPhase number (map (λ own. own.items) replies.now)
+        ≡ text.old.items ++ phase_text number (map (λ own. own.replies) replies.now)) }
+    ensures goes_on { OnOk result (AddsPhase number (map (λ own. own.replies) replies.now)
         text.old.items text.new.items) }
 {
     if has_no_call(replies) {
@@ -30,16 +26,16 @@ pub fn append_phase(
 }
 
 /// Whether no caller made a call.
-fn has_no_call(replies: &[Vec<Reply>]) -> bool
-    ensures { IsTrue result ↔ All (λ own. own ≡ []) (map (λ own. own.items) replies.now) }
+fn has_no_call(replies: &[Replies]) -> bool
+    ensures { IsTrue result ↔ All (λ own. own ≡ []) (map (λ own. own.replies) replies.now) }
 {
-    replies.iter().all(|own| own.as_slice().is_empty())
+    replies.iter().all(|own| own.len() == 0)
 }
 
 /// Appends the replies of each caller with a call, by its number.
-fn append_callers(text: &mut Vec<u8>, replies: &[Vec<Reply>]) -> Result<(), AllocError>
+fn append_callers(text: &mut Vec<u8>, replies: &[Replies]) -> Result<(), AllocError>
     ensures { OnOk result (text.new.items
-        ≡ text.old.items ++ callers_text (map (λ own. own.items) replies.now)) }
+        ≡ text.old.items ++ callers_text (map (λ own. own.replies) replies.now)) }
 {
     for caller in 0..replies.len() {
         append_caller(text, caller as u64, &replies[caller])?;
@@ -48,17 +44,15 @@ fn append_callers(text: &mut Vec<u8>, replies: &[Vec<Reply>]) -> Result<(), Allo
 }
 
 /// Appends the replies to one caller's calls in a phase.
-pub fn append_caller(text: &mut Vec<u8>, caller: u64, replies: &[Reply]) -> Result<(), AllocError>
-    ensures { OnOk result (text.new.items ≡ text.old.items ++ caller_text caller replies.now) }
+pub fn append_caller(text: &mut Vec<u8>, caller: u64, replies: &Replies) -> Result<(), AllocError>
+    ensures { OnOk result (text.new.items
+        ≡ text.old.items ++ caller_text caller replies.now.replies) }
 {
-    if replies.is_empty() {
+    if replies.len() == 0 {
         return Ok(());
     }
     append_number(text, b"caller ", caller)?;
-    for &reply in replies {
-        append_reply(text, reply)?;
-    }
-    Ok(())
+    replies.append_to(text)
 }
 
 /// Appends the final rows, and their number. After all phases this ends the transcript.

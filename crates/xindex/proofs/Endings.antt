@@ -14,7 +14,7 @@ use Rattle.xindex.specs.declared.status.Status.TheVariants.{Done, Usage, ReadFau
 -- ---- what is told ----
 
 -- a text is told under its own status alone, where the sink does not fail and there is memory
-own_told : (text : List ℕ) (own status : Status) (old new : EndsState) → status ≢ WriteFault →
+pub own_told : (text : List ℕ) (own status : Status) (old new : EndsState) → status ≢ WriteFault →
     status ≢ Memory → Tells text own old new status → status ≡ own
 own_told text own Done old new no_fault some tells = tells.0
 own_told text own Usage old new no_fault some tells = tells.0
@@ -26,7 +26,7 @@ own_told text own BadLimits old new no_fault some tells = tells.0
 own_told text own Limit old new no_fault some tells = tells.0
 
 -- the statuses under which a text is told
-abbrev IsOwn : Status → Type 0
+abbrev pub IsOwn : Status → Type 0
 IsOwn Done = Unit {0}
 IsOwn BadTrace = Unit {0}
 IsOwn own = ⊥
@@ -43,7 +43,7 @@ own_output l text BadLimits output is = absurd is
 own_output l text Limit output is = absurd is
 
 -- what is told of a text is told under such a status
-told_own : (l : Limits) (text : List ℕ) (status : Status) (old new : EndsState) →
+pub told_own : (l : Limits) (text : List ℕ) (status : Status) (old new : EndsState) →
     status ≢ WriteFault → status ≢ Memory →
     (own : Status) × (output : List ℕ) × IsOutput l text own output × Tells output own old new status →
     IsOwn status

@@ -1,5 +1,5 @@
 -- What the program may have done when it ends.
-use Rattle.std.specs.Prelude.{◌≡◌, ◌++◌, ℕ, List, [], MatchOption, None, codes, decimal}
+use Rattle.std.specs.Prelude.{◌≡◌, ◌≢◌, ◌++◌, ℕ, List, [], MatchOption, None, codes, decimal}
 use Rattle.line_session.specs.declared.ends.Ended.{Ended}
 use Rattle.line_session.specs.declared.ends.Ended.TheVariants as ended
 use Rattle.line_session.specs.Ends.{EndsState}
@@ -67,6 +67,11 @@ pub record OnlyRefuses (line : List ℕ) (refused : Status) (ends_old ends_new :
   pub refusal : Tells line refused ends_old ends_new outcome.status
   pub unread : ends_new.left ≡ ends_old.left
   pub no_index : outcome ≡ unopened outcome.status
+
+-- there was no memory: nothing was written, and nothing read but for a trace that is to be run
+pub record LacksMemory (mode : Mode) (ends_old ends_new : EndsState) : Type 0 where
+  pub unwritten : ends_new.written ≡ ends_old.written
+  pub unread : mode ≢ Run → ends_new.left ≡ ends_old.left
 
 -- one session was served by pass 0 over the index, which was opened empty with these limits: its log
 -- tells it, and nobody else changed the index; this is the status of its end

@@ -5,7 +5,7 @@ ghost use Rattle.word_layout.specs.Limits.{KeepsRules};
 ghost use Rattle.xindex.specs.Generated.{Generates, IsPrinted};
 
 use crate::Status;
-use crate::running::{lines_of, run_lines};
+use crate::running::run_trace;
 use crate::summary::{append_summary, call_count};
 use crate::telling::tell;
 use command_line::{Print, Recipe};
@@ -98,10 +98,8 @@ where
         ..
     } = recipe;
     let trace = mix_lines(alloc, mix, load, ops, limits.callers, seed)?;
-    let lines = lines_of(alloc, &trace)?;
-    drop(trace);
-    let (phases, rows) = run_lines(rt, alloc, limits, &lines, gate)?;
+    let (phases, rows) = run_trace(rt, alloc, limits, &trace, gate)?;
     let mut summary = Vec::new(alloc);
-    append_summary(&mut summary, call_count(&lines), &phases, rows.len() as u64)?;
+    append_summary(&mut summary, call_count(&trace), &phases, rows.len() as u64)?;
     Ok(summary)
 }

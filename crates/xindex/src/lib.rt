@@ -17,6 +17,6 @@ mod top;
 pub use caller_phases::{Ran, run_phases};
 pub use line_session::{Gate, NoGate};
 pub use outcome::Outcome;
-pub use standard_ends::{StandardInput, StandardOutput};
+pub use standard_ends::{Progress, StandardInput, StandardOutput};
 pub use status::Status;
 pub use top::xindex;

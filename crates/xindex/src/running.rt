@@ -14,7 +14,7 @@ use line_session::{Gate, Sink, Source, TextError, read_text};
 use std::alloc::{AllocError, Global};
 use std::sync::{Arc, Wait};
 use std::thread::Threads;
-use trace_text::{Line, Trace, TraceError, append_rows, read_trace};
+use trace_text::{Trace, TraceError, append_rows, read_trace};
 use word_layout::Limits;
 use xindex_core::{Index, Opened};
 
@@ -90,11 +90,7 @@ where
         Err(error) => return Err(error),
     };
     drop(text);
-    let Ok(lines) = lines_of(alloc, &trace) else {
-        return Err(TraceError::Memory);
-    };
-    drop(trace);
-    let Ok((mut transcript, rows)) = run_lines(rt, alloc, limits, &lines, gate) else {
+    let Ok((mut transcript, rows)) = run_trace(rt, alloc, limits, &trace, gate) else {
         return Err(TraceError::Memory);
     };
     match append_rows(&mut transcript, &rows) {
@@ -103,23 +99,23 @@ where
     }
 }
 
-/// Runs the lines of a trace over a new index with these limits, and closes it. It gives the text of the phases, and
+/// Runs a trace over a new index with these limits, and closes it. It gives the text of the phases, and
 /// the pairs that are left. The error is want of memory.
-pub(crate) fn run_lines<R, G: Gate + Send + Sync + 'static>(
+pub(crate) fn run_trace<R, G: Gate + Send + Sync + 'static>(
     rt: &R,
     alloc: Global,
     limits: Limits,
-    lines: &[Line],
+    trace: &Trace,
     gate: Arc<G>,
 ) -> Result<(Vec<u8>, Vec<(u64, u64)>), AllocError>
 where
     R: Threads + Wait + Copy + Send + Sync + 'static,
-    ensures { IfOk result (λ ran. IsRun limits lines.now ran.0.items ran.1.items) }
+    ensures { IfOk result (λ ran. IsRun limits trace.now ran.0.items ran.1.items) }
 {
     let Ok(opened) = Index::open(alloc, limits, &[]) else {
         return Err(AllocError);
     };
-    let Ran { opened, transcript } = run_phases(rt, alloc, opened, lines, gate)?;
+    let Ran { opened, transcript } = run_phases(rt, alloc, opened, trace, gate)?;
     let Opened {
         index,
         passes,
@@ -129,16 +125,4 @@ where
         Ok(rows) => Ok((transcript, rows)),
         Err(_) => Err(AllocError),
     }
-}
-
-/// The lines of a trace, one beside the other.
-pub(crate) fn lines_of(alloc: Global, trace: &Trace) -> Result<Vec<Line>, AllocError>
-    ensures { IfOk result (λ lines. lines.items ≡ trace.now) }
-{
-    let mut lines = Vec::new(alloc);
-    let mut cursor = trace.cursor();
-    while let Some(line) = cursor.next_line() {
-        lines.push(line)?;
-    }
-    Ok(lines)
 }

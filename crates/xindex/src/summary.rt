@@ -7,15 +7,16 @@ ghost use Rattle.trace_text.specs.Transcripts.{phases_text};
 ghost use Rattle.xindex.specs.Generated.{counts_text, is_call, summary_text};
 
 use std::alloc::AllocError;
-use trace_text::{Form, Line, append_number, reply_count};
+use trace_text::{Form, Line, Trace, append_number, reply_count};
 
-/// How many of the lines are calls.
-pub(crate) fn call_count(lines: &[Line]) -> u64
-    ensures { result ≡ length (filter is_call lines.now) }
+/// How many lines of the trace are calls.
+pub(crate) fn call_count(trace: &Trace) -> u64
+    ensures { result ≡ length (filter is_call trace.now) }
 {
+    let mut lines = trace.cursor();
     let mut count: u64 = 0;
-    for line in lines {
-        if let Line::Call(_) = *line {
+    while let Some(line) = lines.next_line() {
+        if let Line::Call(_) = line {
             count += 1;
         }
     }

@@ -4,7 +4,8 @@ ghost use Rattle.command_line.specs.declared.answers.Command.{Command};
 ghost use Rattle.command_line.specs.Command.{IsCommand, KeepsBounds, asked_limits, texts_of};
 ghost use Rattle.line_session.specs.Ends.{CountsRead, CountsWrite, ends_of};
 ghost use Rattle.word_layout.specs.Limits.{IsFirstBroken, KeepsRules};
-ghost use Rattle.xindex.specs.Outcome.{AsksBadLimits, Does, IsNoCommand, OnlyRefuses};
+ghost use Rattle.xindex.specs.Completing.{BlamesNoInput, HasItsInput};
+ghost use Rattle.xindex.specs.Outcome.{AsksBadLimits, Does, IsNoCommand, LacksMemory, OnlyRefuses};
 ghost use Rattle.xindex.specs.Outcome.{limit_line, usage_line};
 
 use crate::generating::generate;
@@ -39,6 +40,12 @@ where
         → KeepsRules (asked_limits (texts_of words.now)) → Does command.mode command
         (ends_of (S.state source.old) (K.state sink.old))
         (ends_of (S.state source.new) (K.state sink.new)) result }
+
+    // Where the mode has the input that it reads, only want of memory or a fault of an end keeps it from its end.
+    ensures completes { (command : Command) → IsCommand (texts_of words.now) command
+        → KeepsRules (asked_limits (texts_of words.now))
+        → HasItsInput command.mode command (ends_of (S.state source.old) (K.state sink.old))
+        → BlamesNoInput result.status }
 
     // An index is handed out only where the words ask for a session.
     ensures opened { IsSome result.opened → (command : Command)
@@ -108,10 +115,9 @@ where
         (ends_of (S.state source.old) (K.state sink.old))
         (ends_of (S.state source.new) (K.state sink.new)) result }
     ensures traces { result.status ≡ Status.BadTrace → command.mode ≡ Mode.Run }
-    ensures memory_unread { command.mode ≢ Mode.Run → result.status ≡ Status.Memory
-        → (S.state source.new).left ≡ (S.state source.old).left }
-    ensures memory_unwritten { result.status ≡ Status.Memory
-        → (K.state sink.new).written ≡ (K.state sink.old).written }
+    ensures memory { result.status ≡ Status.Memory → LacksMemory command.mode
+        (ends_of (S.state source.old) (K.state sink.old))
+        (ends_of (S.state source.new) (K.state sink.new)) }
     ensures read_faults { CountsRead (result.status ≡ Status.ReadFault)
         (S.state source.old) (S.state source.new) }
     ensures write_faults { CountsWrite (result.status ≡ Status.WriteFault)
@@ -146,10 +152,9 @@ where
     ensures no_usage { result.status ≢ Status.Usage }
     ensures no_bad_limits { result.status ≢ Status.BadLimits }
     ensures traces { result.status ≡ Status.BadTrace → command.mode ≡ Mode.Run }
-    ensures memory_unread { command.mode ≢ Mode.Run → result.status ≡ Status.Memory
-        → (S.state source.new).left ≡ (S.state source.old).left }
-    ensures memory_unwritten { result.status ≡ Status.Memory
-        → (K.state sink.new).written ≡ (K.state sink.old).written }
+    ensures memory { result.status ≡ Status.Memory → LacksMemory command.mode
+        (ends_of (S.state source.old) (K.state sink.old))
+        (ends_of (S.state source.new) (K.state sink.new)) }
     ensures read_faults { CountsRead (result.status ≡ Status.ReadFault)
         (S.state source.old) (S.state source.new) }
     ensures write_faults { CountsWrite (result.status ≡ Status.WriteFault)

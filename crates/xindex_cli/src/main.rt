@@ -7,7 +7,7 @@ use std::env::Env;
 use std::io::ErrorKind;
 use std::process::ExitCode;
 use std::sync::Arc;
-use xindex::{NoGate, StandardInput, StandardOutput, Status, xindex};
+use xindex::{Progress, StandardInput, StandardOutput, Status, xindex};
 
 fn main(rt: HostRuntime) -> ExitCode {
     let mut source = StandardInput::new(rt.stdin());
@@ -20,7 +20,7 @@ fn main(rt: HostRuntime) -> ExitCode {
     let Ok(texts) = texts_of(rt.alloc(), &words) else {
         return ExitCode::from(Status::Memory.number());
     };
-    let Ok(gate) = Arc::new(rt.alloc(), NoGate) else {
+    let Ok(gate) = Arc::new(rt.alloc(), Progress::new(rt.stderr())) else {
         return ExitCode::from(Status::Memory.number());
     };
     let outcome = xindex(&rt, rt.alloc(), &texts, &mut source, &mut sink, gate);

@@ -11,8 +11,8 @@ abbrev pub invariant-loop-left : goal.invariant-loop-left
 invariant-loop-left g l =
     record {
       done : List (List Line);
-      whole : done ++ phases_left l.left ≡ phases_of l.fn.lines;
-      few : l.number + lines_left l.left ≤ length l.fn.lines + 1;
+      whole : done ++ phases_left l.left ≡ phases_of l.trace;
+      few : l.number + lines_left l.left ≤ length l.trace + 1;
       run : HaveRun l.index done (replicate (limits_of_index l.index).callers []) l.number
           l.passes.items l.transcript.items;
     }

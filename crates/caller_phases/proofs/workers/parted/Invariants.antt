@@ -8,6 +8,6 @@ invariant-loop-worker l =
     record {
       passes : l.passes.items ++ map pass_of l.worker-iterator.rest.items
           ≡ map pass_of l.fn.workers.items;
-      replies : map (λ own. own.items) l.replies.items ++ map replies_of l.worker-iterator.rest.items
+      replies : map (λ own. own.replies) l.replies.items ++ map replies_of l.worker-iterator.rest.items
           ≡ map replies_of l.fn.workers.items;
     }

@@ -7,5 +7,5 @@ abbrev pub invariant-loop-caller : goal.invariant-loop-caller
 invariant-loop-caller l =
     l.text.items
     ≡ l.fn.text.items
-    ++ flat_map (λ caller. caller_text caller (get_or (map (λ own. own.items) l.replies) caller []))
+    ++ flat_map (λ caller. caller_text caller (get_or (map (λ own. own.replies) l.replies) caller []))
     (range_with_len 0 l.caller)

@@ -1,7 +1,6 @@
 -- The replies of the run were counted, and its rows.
-use Rattle.std.proofs.Common.{◌≡◌, ◌++◌, ◌∙◌, List, length, ap, arith, subst}
+use Rattle.std.proofs.Common.{◌≡◌, ◌++◌, ◌∙◌, length, arith}
 use Rattle.std.specs.List.{filter}
-use Rattle.trace_text.specs.declared.lines.Line.{Line}
 use Rattle.trace_text.specs.Counts.{all_replies}
 use Rattle.xindex.specs.Generated.{is_call, summary_text}
 use Rattle.xindex.specs.Ran.{IsRun}
@@ -12,15 +11,11 @@ returns g c =
     let trace = c.in_ok-trace.trace in
     let phases = c.in_ok-phases.phases.items in
     let rows = c.in_ok-phases.rows.items in
-    let run : IsRun c.args.limits trace phases rows =
-    subst (λ (lines : List Line). IsRun c.args.limits lines phases rows)
-    (c.deref.ensures.value ∙ c.in_ok-lines.ensures) c.in_ok-phases.ensures in
+    let run : IsRun c.args.limits trace phases rows = c.in_ok-phases.ensures in
     let replies = run.explained.replies in
-    let calls : c.call_count.result ≡ length (filter is_call trace) =
-    c.call_count.ensures
-    ∙ ap (λ (lines : List Line). length (filter is_call lines)) (c.deref-2.ensures.value ∙ c.in_ok-lines.ensures) in
+    let calls : c.call_count.result ≡ length (filter is_call trace) = c.call_count.ensures in
     let long : c.len.result ≡ length rows = omega (arith, c.len.ensures, c.in_ok-phases.rows.ok.0) in
-    let told = c.in_ok-append_summary.ensures replies (c.deref-3.ensures.value ∙ run.explained.text_is) in (
+    let told = c.in_ok-append_summary.ensures replies (c.deref.ensures.value ∙ run.explained.text_is) in (
       trace,
       c.in_ok-trace.ensures,
       record {
