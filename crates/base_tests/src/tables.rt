@@ -112,9 +112,9 @@ fn a_small_table_has_its_words_behind_one_another(rt: HostRuntime) {
         assert_eq!(rt; layout.words(), 129);
         assert_eq!(rt; layout.limits(), limits);
         assert_eq!(rt; (layout.epoch(0), layout.epoch(2)), (2, 4));
-        assert_eq!(rt; (layout.free_head(), layout.root()), (0, 1));
-        assert_eq!(rt; (layout.slot(0, 0), layout.slot_group(0, 0)), (5, 6));
-        assert_eq!(rt; (layout.slot(1, 0), layout.slot_group(1, 0)), (7, 8));
+        assert_eq!(rt; (layout.free_head(), layout.root(0)), (0, 1));
+        assert_eq!(rt; (layout.slot(0, 0, 0), layout.slot_group(0, 0, 0)), (5, 6));
+        assert_eq!(rt; (layout.slot(0, 1, 0), layout.slot_group(0, 1, 0)), (7, 8));
         let (first, last) = (HeaderWord::Pivot.number(), HeaderWord::Next.number());
         assert_eq!(rt; (layout.header(0, first), layout.header(1, last)), (9, 70));
         assert_eq!(rt; (layout.lane_head(0, 0), layout.lane_head(1, 7)), (17, 80));

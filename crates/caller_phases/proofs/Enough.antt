@@ -26,8 +26,8 @@ use Rattle.line_session.proofs.Weighing.{put_bounds, put_of, reply_given, total,
 use Rattle.trace_text.specs.declared.lines.Line.{Line}
 use Rattle.trace_text.specs.declared.lines.Line.TheVariants as line
 use Rattle.caller_phases.proofs.Sums.{only, summed, summed_add, summed_le, summed_one, summed_only}
-use Rattle.caller_phases.specs.Calls.{calls_in, calls_of, phases_of}
-use Rattle.caller_phases.specs.Enough.{EnoughRefusesNothing, HaveNoRefusal, called}
+use Rattle.caller_phases.specs.Calls.{all_calls, calls_in, calls_of, phases_of}
+use Rattle.caller_phases.specs.Enough.{EnoughRefusesNothing, HaveNoRefusal}
 use Rattle.caller_phases.specs.Explained.{AddsWithin, AnswersWithin, ArePhases, GoesOnTo, IsPhase}
 
 -- ---- numbers of changes and of calls ----
@@ -49,6 +49,10 @@ total_by v n (c ∷ h) by =
         ≤ total v (cond b (c ∷ changes_by k h) (changes_by k h))
     here k true = omega arith
     here k false = omega arith
+
+-- what the calls of these lines come to
+abbrev called : (Request → ℕ) → List Line → ℕ
+called w lines = asked w (all_calls lines)
 
 -- the calls of all callers below this come to no more than those of the lines
 asked_by : (w : Request → ℕ) (n present : ℕ) (lines : List Line) →

@@ -29,6 +29,12 @@ calls_of caller present (Call request ∷ lines) =
     (calls_of caller present lines)
 calls_of caller present (line ∷ lines) = calls_of caller present lines
 
+-- what all callers call in these lines, in order
+abbrev pub all_calls : List Line → List Request
+all_calls [] = []
+all_calls (Call request ∷ lines) = request ∷ all_calls lines
+all_calls (line ∷ lines) = all_calls lines
+
 -- what a caller calls in a phase, which begins with calls of caller 0
 abbrev pub calls_in : ℕ → List Line → List Request
 calls_in caller lines = calls_of caller 0 lines

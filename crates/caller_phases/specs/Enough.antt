@@ -1,5 +1,5 @@
--- When no call of a trace is refused: there are record rows and versions for all that its calls may change.
-use Rattle.std.specs.Prelude.{ℕ, ◌+◌, ◌<◌, ◌≤◌, List, [], ◌∷◌}
+-- When no request is refused: there are record rows and versions for all that the requests may change.
+use Rattle.std.specs.Prelude.{ℕ, ◌+◌, ◌<◌, ◌≤◌, List}
 use Rattle.std.specs.List.{AllByRecursion}
 use Rattle.map_model.specs.History.{History}
 use Rattle.map_model.specs.Logs.{Log}
@@ -8,22 +8,16 @@ use Rattle.word_layout.specs.declared.limits.Limits.{Limits}
 use Rattle.index_machine.specs.Forms.{last_version}
 use Rattle.wire_commands.specs.declared.request.Request.{Request}
 use Rattle.wire_commands.specs.declared.reply.Reply.{Reply}
-use Rattle.line_session.specs.Enough.{HasNoRefusal, may_change, may_insert}
+use Rattle.line_session.specs.Enough.{HasNoRefusal, asked, may_change, may_insert}
 use Rattle.trace_text.specs.declared.lines.Line.{Line}
-use Rattle.trace_text.specs.declared.lines.Line.TheVariants.{Call}
+use Rattle.caller_phases.specs.Calls.{all_calls}
 use Rattle.caller_phases.specs.Explained.{IsExplainedBy}
 
--- what the calls of these lines come to by such a number, all together
-abbrev pub called : (Request → ℕ) → List Line → ℕ
-called each [] = 0
-called each (Call request ∷ lines) = each request + called each lines
-called each (line ∷ lines) = called each lines
-
--- there is a record row for each put, and one for each caller; and fewer calls change a key than a record has
+-- there is a record row for each put, and one for each caller; and fewer requests change a key than a record has
 -- versions from the first to the last
-pub record HasEnough (l : Limits) (lines : List Line) : Type 0 where
-  pub rows : called may_insert lines + l.callers ≤ l.records
-  pub versions : l.first_version + called may_change lines < last_version
+pub record HasEnough (l : Limits) (requests : List Request) : Type 0 where
+  pub rows : asked may_insert requests + l.callers ≤ l.records
+  pub versions : l.first_version + asked may_change requests < last_version
 
 -- no call of any caller was refused in any phase
 abbrev pub HaveNoRefusal : List (List (List Reply)) → Type 0
@@ -35,5 +29,5 @@ HaveNoRefusal phases = AllByRecursion (AllByRecursion HasNoRefusal) phases
 abbrev pub EnoughRefusesNothing : Type 0
 EnoughRefusesNothing =
     (l : Limits) (m : Map) (lines : List Line) (h : History) (logs : List Log) (text : List ℕ) →
-    HasEnough l lines → (explained : IsExplainedBy l m lines h logs text) →
+    HasEnough l (all_calls lines) → (explained : IsExplainedBy l m lines h logs text) →
     HaveNoRefusal explained.replies

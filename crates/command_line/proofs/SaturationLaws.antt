@@ -6,7 +6,8 @@ use Rattle.std.proofs.Math.Nat.{min-eq_left}
 use Rattle.std.proofs.lemmas.Bool.Decides.{nat_tests}
 use Rattle.command_line.specs.Asked.{SaturationKeepsRules, saturated, saturated_limits}
 use Rattle.word_layout.specs.declared.limits.Limits.{Limits}
-use Rattle.word_layout.specs.Limits.{IsFirstBroken, KeepsRules, is_within, rules, word_count}
+use Rattle.word_layout.specs.Limits.{IsFirstBroken, KeepsRules, is_within, rules_in, word_count}
+use Rattle.word_layout.specs.Shape.{in_one_part}
 
 -- all numbers fit their fields
 record Fits32 (l : Limits) : Type 0 where
@@ -81,7 +82,7 @@ later_rules l =
     ∷ is_within 1 l.help 1048576
     ∷ is_within 1 l.chain 4096
     ∷ nat_le l.first_version 1152921504606846975
-    ∷ nat_le (word_count l) 268435456
+    ∷ nat_le (word_count (in_one_part l)) 268435456
     ∷ []
 
 first_same : (l : Limits) → first_rules (saturated_limits l) ≡ first_rules l
@@ -176,14 +177,15 @@ fails_first (true ∷ front) rest other same (suc i) first =
 fails_first (false ∷ front) rest other same zero first = record { fails = refl; before = λ k below. absurd (omega arith) }
 fails_first (false ∷ front) rest other same (suc i) first = let passed = first.before 0 (omega arith) in absurd cc
 
-first_to : (l : Limits) (number : ℕ) → IsFirstBroken l number → FailsFirst (rules l) (number - 1)
+first_to : (l : Limits) (number : ℕ) → IsFirstBroken l number → FailsFirst (rules_in (in_one_part l)) (number - 1)
 first_to l number first = record { fails = first.broken; before = first.kept_before }
 
-first_from : (l : Limits) (number : ℕ) → 1 ≤ number → FailsFirst (rules l) (number - 1) → IsFirstBroken l number
+first_from : (l : Limits) (number : ℕ) → 1 ≤ number → FailsFirst (rules_in (in_one_part l)) (number - 1) → IsFirstBroken l number
 first_from l number counted first = record { counted = counted; broken = first.fails; kept_before = first.before }
 
 -- the rules of saturated limits, with the first ones as they are
-split_rules : (l : Limits) → rules (saturated_limits l) ≡ first_rules l ++ later_rules (saturated_limits l)
+split_rules : (l : Limits) →
+    rules_in (in_one_part (saturated_limits l)) ≡ first_rules l ++ later_rules (saturated_limits l)
 split_rules l = ap (λ (front : List Bool). front ++ later_rules (saturated_limits l)) (first_same l)
 
 saturated_broken : (l : Limits) (number : ℕ) → IsFirstBroken l number → IsFirstBroken (saturated_limits l) number

@@ -1,7 +1,7 @@
--- Which buffers the keeper can follow, and what a hand that follows links knows after each load, be it a
--- caller's or the keeper's.
-use Rattle.std.proofs.Common.{◌≡◌, ℕ, ◌<◌, ◌^◌, inl, inr, ⊎_elim, Some, true, []}
-use Rattle.std.proofs.Common.{◌∷◌, ◌++◌, sym, ◌∙◌, subst}
+-- Which buffers the keeper of their group's part can follow, and what a hand that follows links knows after
+-- each load, be it a caller's or this keeper's.
+use Rattle.std.proofs.Common.{◌≡◌, ℕ, ◌+◌, ◌<◌, ◌^◌, inl, inr, ⊎_elim, Some, true, []}
+use Rattle.std.proofs.Common.{◌∷◌, ◌++◌, refl, sym, ◌∙◌, subst}
 use Rattle.std.proofs.Math.Logic.{∥∥₁_elim}
 use Rattle.std.proofs.Props.{props}
 use Rattle.word_layout.specs.declared.headers.HeaderWord.{HeaderWord}
@@ -17,8 +17,9 @@ use Rattle.index_machine.specs.Permissions.{IsReplaced}
 use Rattle.index_machine.specs.Reaching.{stands_in}
 use Rattle.index_machine.specs.RecordConditions.{IsLinkInto}
 use Rattle.index_machine.specs.Rows.{InBuffer, role}
-use Rattle.index_machine.specs.Sections.{IsCaller, IsKeeper, IsReading, StaysInside}
-use Rattle.index_machine.specs.Words.{link_behind, word}
+use Rattle.index_machine.specs.Sections.{IsCaller, IsReading, StaysInside}
+use Rattle.index_machine.specs.Keepers.{IsGroupKeeper, part_of}
+use Rattle.index_machine.specs.Words.{limits, link_behind, word}
 use Rattle.index_machine.proofs.Executions.{valid_before}
 use Rattle.machine_barriers.proofs.Reaches.{may_as}
 use Rattle.machine_buffers.specs.Groups.{IsOfAKey}
@@ -33,6 +34,7 @@ use Rattle.index_rule.specs.declared.hand.Hand.{Hand}
 use Rattle.index_rule.specs.Hands.{Makes, known, opening_of}
 use Rattle.index_rule.proofs.Lanes.{begins_never}
 use Rattle.index_rule.proofs.RecordStepping.{goes_on_inside, now, since}
+use Rattle.index_rule.proofs.Standing.{same_keeper}
 use Rattle.index_rule.proofs.Stepping.{others_only, valid_after, valid_known}
 use Rattle.sorted_group.specs.Standing.{CanFollow}
 use Rattle.sorted_group.proofs.BufferLoads.{IsBufferLoad, lanes_still, load_begins_none, no_crossing}
@@ -43,20 +45,21 @@ use Rattle.delta_buffer.specs.Following.{KeepersCanFollow, KeepsWhole}
 use Rattle.delta_buffer.specs.Walks.{FollowsLink, load_of_link}
 use Rattle.delta_buffer.proofs.Links.{link_below, link_is_load, link_says}
 
--- ---- what only the keeper does ----
+-- ---- what only the keeper of the group's part does ----
 
 takes_keeper : (o : Opening) (t : Execution) (b g : ℕ) (d : Action) → Allowed o t b d →
-    TakesApart o g d t → IsKeeper o b
+    TakesApart o g d t → IsGroupKeeper o b g
 takes_keeper o t b g d may takes =
     ⊎_elim
     (λ (z : (k : ℕ) × (place : ℕ) × (next : ℕ) × (d ≡ Retire place next)
     × (role o place t ≡ InBuffer g k)).
+    same_keeper o ((limits o).callers + part_of o g) b g z.0 z.1 t refl (inr z.4)
     (may_as o t b d (Retire z.1 z.2) z.3 may).keeper)
     (λ (z : (which : HeaderWord) × (value : ℕ) × (d ≡ StoreHeader g which value)
     × IsLaneWord which).
     (may_as o t b d (StoreHeader g z.0 z.1) z.2 may).keeper) takes
 
-whole_while : (o : Opening) (c g : ℕ) → IsKeeper o c → (n t : Execution) → Valid o (n ++ t) →
+whole_while : (o : Opening) (c g : ℕ) → IsGroupKeeper o c g → (n t : Execution) → Valid o (n ++ t) →
     KeepsWhole o c g n t → IsLeftWhole o g n t
 whole_while o c g keeper [] t valid keeps = tt
 whole_while o c g keeper (e ∷ n) t valid keeps = (
@@ -114,7 +117,7 @@ module _ (b : Board) (g : ℕ) (h k : Hand) (d : Action) (is : IsBufferLoad g d)
       (λ (z : IsReading o h.number (known h) × (stands_in h.number g (known h) ≡ true)).
       rows_while o h.number g z.0.caller (since b h k d can.of m) (known h) valid stays z.1
       can.walkable)
-      (λ (z : IsKeeper o h.number) j q e.
+      (λ (z : IsGroupKeeper o h.number g) j q e.
       rows_until o g j q (since b h k d can.of m) (known h) valid (
         λ begins. load_begins_none g d is begins,
         begins_never o h.number g m.acts.0 (known h) z valid.1 (others_only b h k d can.of m),

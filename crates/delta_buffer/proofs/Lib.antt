@@ -4,6 +4,6 @@ pub mod Following
 pub mod Stepping
 pub mod Linking
 pub mod Carrying
-mod KeyCounts
-pub mod RowWalks
+pub mod KeyCounts
+mod RowWalks
 pub mod LaneCounts

@@ -10,7 +10,7 @@ use Rattle.map_model.specs.declared.entries.Change.TheVariants.{Put}
 use Rattle.map_model.specs.declared.entries.Entry.TheVariants.{Made}
 use Rattle.map_model.specs.Logs.{Log}
 use Rattle.map_model.specs.Map.{key_of, look}
-use Rattle.word_layout.specs.declared.limits.Limits.{Limits}
+use Rattle.word_layout.specs.Shape.{Shape}
 use Rattle.word_layout.specs.declared.places.Part.TheVariants.{Key, Link, State, Value}
 use Rattle.word_layout.specs.declared.places.Part.{Part}
 use Rattle.word_layout.specs.Words.{PlaceWord}
@@ -27,7 +27,7 @@ use Rattle.index_machine.specs.Places.{first_version}
 use Rattle.index_machine.specs.Rows.{InBuffer, role}
 use Rattle.index_machine.specs.Sections.{IsCaller, IsNoCrossing, StaysInside}
 use Rattle.index_machine.specs.Lanes.{HasLane}
-use Rattle.index_machine.specs.Words.{limits, word}
+use Rattle.index_machine.specs.Words.{shape, word}
 use Rattle.index_machine.proofs.Executions.{choice-same}
 use Rattle.machine_buffers.specs.Walks.{IsLinkBefore}
 use Rattle.machine_buffers.proofs.InsertPermissions.{permission_while}
@@ -94,17 +94,17 @@ keys_belong o t valid c k g is either =
 -- ---- what a link may be ----
 
 -- no row or a row can be stored in each part of a row
-pub fits_each : (l : Limits) (part : Part) (value : ℕ) → (value ≡ 0) ⊎ IsRow l value →
-    FitsPart l part value
-fits_each l Key value row = tt
-fits_each l Value value row = tt
-fits_each l State value row = tt
-fits_each l Link value row = row
+pub fits_each : (s : Shape) (part : Part) (value : ℕ) → (value ≡ 0) ⊎ IsRow s value →
+    FitsPart s part value
+fits_each s Key value row = tt
+fits_each s Value value row = tt
+fits_each s State value row = tt
+fits_each s Link value row = row
 
 -- what stands behind a key is none or a row
 pub row_ahead_of : (b : Board) (h : Hand) (g key next : ℕ) → IsHandOf b h →
     IsBehindKey (opening_of b) g key next (known h) →
-    (next ≡ 0) ⊎ IsRow (limits (opening_of b)) next
+    (next ≡ 0) ⊎ IsRow (shape (opening_of b)) next
 row_ahead_of b h g key next of ahead =
     ⊎_elim (λ (z : next ≡ 0). inl z)
     (λ (z : (j : ℕ) × (role (opening_of b) next (known h) ≡ InBuffer g j) × (key < j)).

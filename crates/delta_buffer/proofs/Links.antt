@@ -15,7 +15,7 @@ use Rattle.index_machine.specs.Lanes.{HasLane, cut, lanes}
 use Rattle.index_machine.specs.Reaching.{names_place, reached}
 use Rattle.index_machine.specs.RecordConditions.{IsLinkInto}
 use Rattle.index_machine.specs.Rows.{InBuffer, Role, role, role_key}
-use Rattle.index_machine.specs.Words.{limits, link_behind, word}
+use Rattle.index_machine.specs.Words.{shape, link_behind, word}
 use Rattle.index_machine.proofs.Placing.{buffer_row}
 use Rattle.index_rule.specs.Records.{key_at, or_zero}
 use Rattle.index_rule.proofs.RecordSteps.{place_below}
@@ -27,7 +27,7 @@ use Rattle.delta_buffer.specs.Walks.{AreWalkOf, IsWalkOf, load_of_link}
 -- a row of a buffer is not place 0
 pub row_some : (o : Opening) (t : Execution) (g p k : ℕ) → Valid o t →
     role o p t ≡ InBuffer g k → p ≢ 0
-row_some o t g p k valid e = row-nonzero (limits o) p (buffer_row o t valid p g k e)
+row_some o t g p k valid e = row-nonzero (shape o) p (buffer_row o t valid p g k e)
 
 -- a link into a lane is a small number
 pub link_below : (o : Opening) (t : Execution) (g lane p : ℕ) → Valid o t →

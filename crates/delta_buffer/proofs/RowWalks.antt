@@ -1,4 +1,4 @@
--- What a hand knows as it counts the rows of a lane, a caller's or the keeper's.
+-- What a hand knows as it counts the rows of a lane, a caller's or that of the keeper of the group's part.
 --
 -- The fact to remember: rows that stood there at the beginning stand there still, and so do those that
 -- were met.
@@ -16,7 +16,7 @@ use Rattle.index_machine.specs.Execution.{Execution}
 use Rattle.index_machine.specs.Lanes.{HasLane, cut, lanes}
 use Rattle.index_machine.specs.RecordConditions.{IsLinkInto}
 use Rattle.index_machine.specs.Rows.{InBuffer, role}
-use Rattle.index_machine.specs.Words.{limits, word}
+use Rattle.index_machine.specs.Words.{limits, shape, word}
 use Rattle.index_machine.proofs.OpeningRows.{opening_role-row}
 use Rattle.index_machine.proofs.Placing.{buffer_row, placed}
 use Rattle.machine_buffers.specs.Walks.{IsWalkable}
@@ -51,7 +51,7 @@ use Rattle.delta_buffer.proofs.Stepping.{IsOn, arrives, empty_from, sets_out}
 rows_fit : (o : Opening) (g n : ℕ) (t : Execution) → Valid o t → IsWalkable o g t →
     keys_below n (rows g t) ≤ (limits o).records
 rows_fit o g n t valid w =
-    let all = rows-length (limits o) 0 (limits o).records in
+    let all = rows-length (shape o) 0 (limits o).records in
     let fits = below_fits n (rows g t) (all_rows o)
     (λ k j q e f. buffer_key (sym (w.standing k q e) ∙ w.standing j q f))
     (λ k q lt e.

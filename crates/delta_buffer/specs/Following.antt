@@ -1,15 +1,16 @@
--- Which buffers the keeper can follow.
+-- Which buffers the keeper of their group's part can follow.
 --
--- The fact to remember: only the keeper takes a row out of a buffer or refills a word of its lanes, so a
--- buffer that the keeper knows to be whole stays so until it does this itself.
+-- The fact to remember: only this keeper takes a row out of a buffer or refills a word of its lanes, so a
+-- buffer that it knows to be whole stays so until it does this itself.
 use Rattle.std.specs.Prelude.{◌≡◌, ◌⊎◌, ℕ, ◌<◌, Some, [], ◌∷◌, ◌++◌}
 use Rattle.index_machine.specs.declared.opening.Opening.{Opening}
 use Rattle.index_machine.specs.Conditions.{Valid}
 use Rattle.index_machine.specs.Execution.{Execution}
 use Rattle.index_machine.specs.KeyRanges.{predecessor}
 use Rattle.index_machine.specs.Permissions.{IsReplaced}
-use Rattle.index_machine.specs.Sections.{IsKeeper}
-use Rattle.index_machine.specs.Words.{limits}
+use Rattle.index_machine.specs.Keepers.{IsGroupKeeper}
+use Rattle.word_layout.specs.Shape.{group_total}
+use Rattle.index_machine.specs.Words.{shape}
 use Rattle.machine_buffers.specs.Groups.{IsOfAKey}
 use Rattle.machine_buffers.specs.Walks.{IsWalkable, TakesApart}
 use Rattle.index_rule.specs.declared.board.Board.{Board}
@@ -32,16 +33,17 @@ KeepsWhole o hand group (e ∷ newer) t =
 
 -- ---- the laws ----
 
--- the keeper can follow the links of each group that has a whole buffer
+-- the keeper of its part can follow the links of each group that has a whole buffer
 abbrev pub KeepersCanFollow : Type 0
 KeepersCanFollow =
-    (b : Board) (h : Hand) (group : ℕ) → IsHandOf b h → IsKeeper (opening_of b) h.number →
-    group < (limits (opening_of b)).groups → HasWholeBuffer (opening_of b) group (known h) →
-    CanFollow b group h
+    (b : Board) (h : Hand) (group : ℕ) → IsHandOf b h →
+    IsGroupKeeper (opening_of b) h.number group → group < group_total (shape (opening_of b)) →
+    HasWholeBuffer (opening_of b) group (known h) → CanFollow b group h
 
--- a buffer that is walkable stays so as long as the keeper keeps it whole, whatever others do
+-- a buffer that is walkable stays so as long as the keeper of its group's part keeps it whole, whatever
+-- others do, the keepers of other parts too
 abbrev pub BuffersStayWalkableForKeepers : Type 0
 BuffersStayWalkableForKeepers =
-    (o : Opening) (keeper group : ℕ) → IsKeeper o keeper → (newer t : Execution) →
+    (o : Opening) (keeper group : ℕ) → IsGroupKeeper o keeper group → (newer t : Execution) →
     Valid o (newer ++ t) → KeepsWhole o keeper group newer t → IsWalkable o group t →
     IsWalkable o group (newer ++ t)

@@ -12,7 +12,7 @@ use index_rule::{Board, Hand};
 use sorted_group::{Lane, lanes};
 
 /// How many rows the group's buffer has in all its lanes, tombstones included. A caller in its read section
-/// may count them, and so may the keeper.
+/// may count them, and so may the keeper of the group's part.
 ///
 /// Rows that others link meanwhile may be counted or not, so where nobody links the number is exact.
 /// It loads no key and adds no entry.

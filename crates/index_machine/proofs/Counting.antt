@@ -49,7 +49,7 @@ counted_step o t by (Leave n) may old = crossed o t by n may.1 old
 counted_step o t by (LinkRow group lane place change zero next) may old = old
 counted_step o t by (LinkRow group lane place change (suc n) next) may old = old
 counted_step o t by (Install (NextOf left) first low high) may old = old
-counted_step o t by (Install (FirstSlot side) first low high) may old = old
+counted_step o t by (Install (FirstSlot part side) first low high) may old = old
 counted_step o t by action may old = old
 
 epoch_counted : (o : Opening) (t : Execution) → Valid o t → IsCounted o t

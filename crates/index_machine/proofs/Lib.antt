@@ -15,3 +15,5 @@ pub mod Representing
 pub mod Holders
 pub mod WordForms
 pub mod RepresentingAll
+pub mod OfParts
+pub mod OpeningGroups

@@ -26,7 +26,7 @@ use Rattle.index_machine.specs.declared.events.InstallWord.TheVariants.{NextOf, 
 use Rattle.index_machine.specs.declared.opening.Opening.{Opening}
 use Rattle.index_machine.specs.Execution.{Execution, event}
 use Rattle.index_machine.specs.Lists.{In}
-use Rattle.index_machine.specs.Words.{limits, word}
+use Rattle.index_machine.specs.Words.{shape, limits, word}
 use Rattle.index_machine.specs.Rows.{Unused, role, role_key, below_top, free_stack}
 use Rattle.index_machine.specs.Conditions.{Allowed, Valid}
 use Rattle.index_machine.specs.RowLaws.{Chain, IsLinked}
@@ -56,15 +56,15 @@ chain_same before after n (place ∷ rest) same chain = (
 )
 
 chain_from : (o : Opening) (i n : ℕ) → i + suc n ≡ (limits o).records →
-    Chain (word o []) (word o [] (PlaceWord (row_address (limits o) i) Link))
-    (rows_from (limits o) (i + 1) n)
-chain_from o i zero whole = next_row-last (limits o) i (omega arith)
+    Chain (word o []) (word o [] (PlaceWord (row_address (shape o) i) Link))
+    (rows_from (shape o) (i + 1) n)
+chain_from o i zero whole = next_row-last (shape o) i (omega arith)
 chain_from o i (suc n) whole =
-    (next_row-inner (limits o) i (omega arith), chain_from o (i + 1) n (omega arith))
+    (next_row-inner (shape o) i (omega arith), chain_from o (i + 1) n (omega arith))
 
 -- at the opening: all rows in their order
 chain_first : (o : Opening) (n : ℕ) → n ≡ (limits o).records →
-    Chain (word o []) (word o [] FreeHead) (rows_from (limits o) 0 n)
+    Chain (word o []) (word o [] FreeHead) (rows_from (shape o) 0 n)
 chain_first o zero whole = let some = o.layout.kept.least_records in absurd (omega arith)
 chain_first o (suc n) whole = (refl, chain_from o 0 n (omega arith))
 
@@ -126,8 +126,8 @@ linked_step o t by (LinkRow group lane q change (suc n) next) valid may chain =
     links_same o t by (LinkRow group lane q change (suc n) next) valid may refl refl chain
 linked_step o t by (Install (NextOf left) first low high) valid may chain =
     links_same o t by (Install (NextOf left) first low high) valid may refl refl chain
-linked_step o t by (Install (FirstSlot side) first low high) valid may chain =
-    links_same o t by (Install (FirstSlot side) first low high) valid may refl refl chain
+linked_step o t by (Install (FirstSlot part side) first low high) valid may chain =
+    links_same o t by (Install (FirstSlot part side) first low high) valid may refl refl chain
 linked_step o t by action valid may chain =
     links_same o t by action valid may refl refl chain
 
@@ -149,7 +149,7 @@ top o t valid some =
 
 -- what the head names is a free row
 pub top_free : (o : Opening) (t : Execution) → Valid o t → word o t FreeHead ≢ 0 →
-    (role o (word o t FreeHead) t ≡ Unused) × IsRow (limits o) (word o t FreeHead)
+    (role o (word o t FreeHead) t ≡ Unused) × IsRow (shape o) (word o t FreeHead)
 top_free o t valid some =
     (placed o t valid).free (word o t FreeHead)
     (subst (In (word o t FreeHead)) (sym (top o t valid some).1) (inl refl))
@@ -158,9 +158,9 @@ top_free o t valid some =
 
 -- a private store in the row itself: a link fits, and another part leaves the link
 stored_fits : (o : Opening) (t : Execution) (by : ℕ) (part : Part) (value place : ℕ) →
-    FitsPart (limits o) part value →
-    FitsPart (limits o) Link (word o t (PlaceWord place Link)) →
-    FitsPart (limits o) Link
+    FitsPart (shape o) part value →
+    FitsPart (shape o) Link (word o t (PlaceWord place Link)) →
+    FitsPart (shape o) Link
     (word o (event by (StorePrivate place part value) ∷ t) (PlaceWord place Link))
 stored_fits o t by Key value place fits old = rw (eq-eqb place place refl) old
 stored_fits o t by Value value place fits old = rw (eq-eqb place place refl) old
@@ -173,66 +173,66 @@ other_part true value n = refl
 other_part false value n = refl
 
 -- a store that fits leaves a link that fits
-fits_if : (o : Opening) (b : Bool) (value n : ℕ) → FitsPart (limits o) Link value →
-    FitsPart (limits o) Link n → FitsPart (limits o) Link (cond b value n)
+fits_if : (o : Opening) (b : Bool) (value n : ℕ) → FitsPart (shape o) Link value →
+    FitsPart (shape o) Link n → FitsPart (shape o) Link (cond b value n)
 fits_if o true value n new old = new
 fits_if o false value n new old = old
 
 links_step : (o : Opening) (t : Execution) (by : ℕ) (action : Action) → Valid o t →
-    Allowed o t by action → (place : ℕ) → IsRow (limits o) place →
-    FitsPart (limits o) Link (word o t (PlaceWord place Link)) →
-    FitsPart (limits o) Link (word o (event by action ∷ t) (PlaceWord place Link))
+    Allowed o t by action → (place : ℕ) → IsRow (shape o) place →
+    FitsPart (shape o) Link (word o t (PlaceWord place Link)) →
+    FitsPart (shape o) Link (word o (event by action ∷ t) (PlaceWord place Link))
 links_step o t by (StorePrivate stored part value) valid may place row old =
     dite (ℕ_discrete stored place)
     (λ (same : stored ≡ place).
     subst
-    (λ (p : ℕ). FitsPart (limits o) Link
+    (λ (p : ℕ). FitsPart (shape o) Link
     (word o (event by (StorePrivate p part value) ∷ t) (PlaceWord place Link)))
     (sym same) (stored_fits o t by part value place may.fits old))
     (λ (differ : stored ≢ place).
-    subst (FitsPart (limits o) Link)
+    subst (FitsPart (shape o) Link)
     (sym (private_apart o t by stored part value place Link differ)) old)
 links_step o t by (Lock q expected) valid may place row old =
-    subst (FitsPart (limits o) Link)
+    subst (FitsPart (shape o) Link)
     (sym (other_part (q == place) (expected + 4) (word o t (PlaceWord place Link)))) old
 links_step o t by (StoreValue q value) valid may place row old =
-    subst (FitsPart (limits o) Link)
+    subst (FitsPart (shape o) Link)
     (sym (other_part (q == place) value (word o t (PlaceWord place Link)))) old
 links_step o t by (Unlock q removed change stored) valid may place row old =
-    subst (FitsPart (limits o) Link)
+    subst (FitsPart (shape o) Link)
     (sym (other_part (q == place) stored (word o t (PlaceWord place Link)))) old
 links_step o t by (LinkRow group lane q change zero next) valid may place row old = old
 links_step o t by (LinkRow group lane q change (suc n) next) valid may place row old =
     fits_if o ((suc n == place) && true) q (word o t (PlaceWord place Link))
     (inr ((placed o t valid).held by q may.mine).0) old
 links_step o t by (StoreArray group q part value) valid may place row old =
-    subst (FitsPart (limits o) Link)
+    subst (FitsPart (shape o) Link)
     (sym (store_apart q place value (word o t (PlaceWord place Link)) part Link
-    (λ e. array_not_row (limits o) group q may.in_array.group_exists may.in_array.in_array
-    (subst (IsRow (limits o)) (sym e) row)))) old
+    (λ e. array_not_row (shape o) group q may.in_array.group_exists may.in_array.in_array
+    (subst (IsRow (shape o)) (sym e) row)))) old
 links_step o t by (StoreRedirect group q k to) valid may place row old =
-    subst (FitsPart (limits o) Link)
+    subst (FitsPart (shape o) Link)
     (sym (other_part (q == place) (word_of_state (state.Redirect to))
     (word o t (PlaceWord place Link)))) old
 links_step o t by (Install (NextOf left) first low high) valid may place row old = old
-links_step o t by (Install (FirstSlot side) first low high) valid may place row old = old
+links_step o t by (Install (FirstSlot part side) first low high) valid may place row old = old
 links_step o t by (Close q expected) valid may place row old =
-    subst (FitsPart (limits o) Link)
+    subst (FitsPart (shape o) Link)
     (sym (other_part (q == place) (expected + 4) (word o t (PlaceWord place Link)))) old
 links_step o t by (Copy q value) valid may place row old =
-    subst (FitsPart (limits o) Link)
+    subst (FitsPart (shape o) Link)
     (sym (other_part (q == place) value (word o t (PlaceWord place Link)))) old
 links_step o t by (StoreDirect q from k removed stored) valid may place row old =
-    subst (FitsPart (limits o) Link)
+    subst (FitsPart (shape o) Link)
     (sym (other_part (q == place) stored (word o t (PlaceWord place Link)))) old
 links_step o t by (StoreMoved q) valid may place row old =
-    subst (FitsPart (limits o) Link)
+    subst (FitsPart (shape o) Link)
     (sym (other_part (q == place) (word_of_state state.Moved)
     (word o t (PlaceWord place Link)))) old
 links_step o t by action valid may place row old = old
 
-pub links_fit : (o : Opening) (t : Execution) → Valid o t → (place : ℕ) → IsRow (limits o) place →
-    FitsPart (limits o) Link (word o t (PlaceWord place Link))
-links_fit o [] valid place row = next_row-fits (limits o) place row
+pub links_fit : (o : Opening) (t : Execution) → Valid o t → (place : ℕ) → IsRow (shape o) place →
+    FitsPart (shape o) Link (word o t (PlaceWord place Link))
+links_fit o [] valid place row = next_row-fits (shape o) place row
 links_fit o (e ∷ t) valid place row =
     links_step o t e.by e.action valid.1 valid.0 place row (links_fit o t valid.1 place row)

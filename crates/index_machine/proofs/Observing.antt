@@ -17,8 +17,9 @@ use Rattle.index_machine.specs.declared.events.Action.TheVariants.{LinkRow, Reti
 use Rattle.index_machine.specs.declared.events.Action.TheVariants.{NewGroup}
 use Rattle.index_machine.specs.declared.opening.Opening.{Opening}
 use Rattle.index_machine.specs.Execution.{Execution, event}
-use Rattle.index_machine.specs.Words.{limits, word}
-use Rattle.index_machine.specs.Sections.{IsCaller, IsKeeper, IsInside, crossings_after, crossings}
+use Rattle.index_machine.specs.Words.{shape, word}
+use Rattle.index_machine.specs.Sections.{IsCaller, IsInside, crossings_after, crossings}
+use Rattle.index_machine.specs.Keepers.{IsKeeper}
 use Rattle.index_machine.specs.Rows.{Role, Unused, HeldBy, InArray, InBuffer, role}
 use Rattle.index_machine.specs.Rows.{role_key}
 use Rattle.index_machine.specs.ObservedHeads.{ObservedHead, NoHead, HeadAndLink, head_of}
@@ -113,7 +114,7 @@ free_set q p u r some e = go (q == p) e
 
 -- a row that is free after an action that does not push it was free before
 pub free_role : (o : Opening) (t : Execution) (by : ℕ) (action : Action) → Valid o t →
-    (place : ℕ) → IsRow (limits o) place → IsNoPushOf place action →
+    (place : ℕ) → IsRow (shape o) place → IsNoPushOf place action →
     role o place (event by action ∷ t) ≡ Unused → role o place t ≡ Unused
 free_role o t by (PopFree popped next) valid place row other free =
     dite (ℕ_discrete popped place)
@@ -138,7 +139,7 @@ free_role o t by action valid place row other free = free
 
 -- and its link is the same
 free_before : (o : Opening) (t : Execution) (by : ℕ) (action : Action) → Valid o t →
-    Allowed o t by action → (place : ℕ) → IsRow (limits o) place → IsNoPushOf place action →
+    Allowed o t by action → (place : ℕ) → IsRow (shape o) place → IsNoPushOf place action →
     role o place (event by action ∷ t) ≡ Unused →
     (role o place t ≡ Unused)
     × (word o (event by action ∷ t) (PlaceWord place Link) ≡ word o t (PlaceWord place Link))
@@ -235,7 +236,7 @@ heads_step o t by action valid may old =
           (λ (earlier : Observes caller place t). old.row caller place known earlier)
           (λ (loaded : MayLoadHead o caller place t).
           let some : word o t FreeHead ≢ 0 = λ e. loaded.1 (sym loaded.0 ∙ e) in
-          subst (IsRow (limits o)) loaded.0 (top_free o t valid some).1)
+          subst (IsRow (shape o)) loaded.0 (top_free o t valid some).1)
           (observed_before o t by action may caller place observed).0;
       link = link_step o t by action valid may old;
     }

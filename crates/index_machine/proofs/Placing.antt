@@ -7,7 +7,7 @@ use Rattle.std.proofs.Common.{subst, arith}
 use Rattle.std.specs.Prelude.{◌==◌}
 use mathlib.Core.Logic.{dite}
 use native.Mathlib.Decide.{ℕ_discrete}
-use Rattle.word_layout.specs.declared.limits.Limits.{Limits}
+use Rattle.word_layout.specs.Shape.{Shape}
 use Rattle.word_layout.specs.Addresses.{row_address}
 use Rattle.word_layout.specs.Places.{IsRow, rows_from}
 use Rattle.map_model.specs.Map.{key_of}
@@ -18,12 +18,12 @@ use Rattle.index_machine.specs.declared.events.Action.TheVariants.{Retire, Store
 use Rattle.index_machine.specs.declared.opening.Opening.{Opening}
 use Rattle.index_machine.specs.Execution.{Execution, event, Without}
 use Rattle.index_machine.specs.Lists.{In, AreDistinct}
-use Rattle.index_machine.specs.Words.{limits}
+use Rattle.index_machine.specs.Words.{shape, limits}
 use Rattle.index_machine.specs.Sections.{IsCaller, IsHand}
 use Rattle.index_machine.specs.Rows.{Role, Unused, HeldBy, InArray, InBuffer, emptied, role, Holds}
 use Rattle.index_machine.specs.Rows.{HoldsNone, below_top, free_stack}
 use Rattle.index_machine.specs.Conditions.{Allowed, Valid}
-use Rattle.index_machine.specs.RebuildConditions.{IsArrayPlaceOf}
+use Rattle.index_machine.specs.Keepers.{IsArrayPlaceOf}
 use Rattle.index_machine.specs.RowLaws.{RowsPlaced}
 use Rattle.index_machine.proofs.Executions.{choice-same, choice-other}
 use Rattle.index_machine.proofs.OpeningRows.{array_not_row, opening_role-array}
@@ -52,56 +52,57 @@ hands_apart o t hand held other place mine theirs differ e =
 
 -- ---- the rows of the table as it is opened ----
 
-in_rows : (l : Limits) (i n place : ℕ) → In place (rows_from l i n) →
-    (j : ℕ) × (i ≤ j) × (j < i + n) × (place ≡ row_address l j)
-in_rows l i zero place h = absurd h
-in_rows l i (suc n) place h =
+in_rows : (s : Shape) (i n place : ℕ) → In place (rows_from s i n) →
+    (j : ℕ) × (i ≤ j) × (j < i + n) × (place ≡ row_address s j)
+in_rows s i zero place h = absurd h
+in_rows s i (suc n) place h =
     ⊎_elim
-    (λ (e : place ≡ row_address l i). (i, omega arith, omega arith, e))
-    (λ (k : In place (rows_from l (i + 1) n)).
-    let r = in_rows l (i + 1) n place k in (r.0, omega arith, omega arith, r.3))
+    (λ (e : place ≡ row_address s i). (i, omega arith, omega arith, e))
+    (λ (k : In place (rows_from s (i + 1) n)).
+    let r = in_rows s (i + 1) n place k in (r.0, omega arith, omega arith, r.3))
     h
 
-row_in : (l : Limits) (i n j : ℕ) → i ≤ j → j < i + n → In (row_address l j) (rows_from l i n)
-row_in l i zero j low high = absurd (omega arith)
-row_in l i (suc n) j low high =
+row_in : (s : Shape) (i n j : ℕ) → i ≤ j → j < i + n → In (row_address s j) (rows_from s i n)
+row_in s i zero j low high = absurd (omega arith)
+row_in s i (suc n) j low high =
     dite (ℕ_discrete j i)
-    (λ (e : j ≡ i). inl (ap (row_address l) e))
-    (λ (differ : j ≢ i). inr (row_in l (i + 1) n j (omega arith) (omega arith)))
+    (λ (e : j ≡ i). inl (ap (row_address s) e))
+    (λ (differ : j ≢ i). inr (row_in s (i + 1) n j (omega arith) (omega arith)))
 
-pub rows-distinct : (l : Limits) (i n : ℕ) → AreDistinct (rows_from l i n)
-rows-distinct l i zero = tt
-rows-distinct l i (suc n) = (
-  (λ h. let r = in_rows l (i + 1) n (row_address l i) h in
-      let same : i ≡ r.0 = row_address-injective l i r.0 r.3 in omega arith),
-  rows-distinct l (i + 1) n,
+pub rows-distinct : (s : Shape) (i n : ℕ) → AreDistinct (rows_from s i n)
+rows-distinct s i zero = tt
+rows-distinct s i (suc n) = (
+  (λ h. let r = in_rows s (i + 1) n (row_address s i) h in
+      let same : i ≡ r.0 = row_address-injective s i r.0 r.3 in omega arith),
+  rows-distinct s (i + 1) n,
 )
 
 -- the free rows and those in hands
 record RowsKept (o : Opening) (t : Execution) : Type 0 where
   free : (place : ℕ) → In place (free_stack o t) →
-      (role o place t ≡ Unused) × IsRow (limits o) place
+      (role o place t ≡ Unused) × IsRow (shape o) place
   once : AreDistinct (free_stack o t)
-  all : (place : ℕ) → IsRow (limits o) place → role o place t ≡ Unused →
+  all : (place : ℕ) → IsRow (shape o) place → role o place t ≡ Unused →
       In place (free_stack o t)
-  held : (hand place : ℕ) → Holds o hand place t → IsRow (limits o) place × IsHand o hand
+  held : (hand place : ℕ) → Holds o hand place t → IsRow (shape o) place × IsHand o hand
   one : (caller place other : ℕ) → IsCaller o caller → Holds o caller place t →
       Holds o caller other t → place ≡ other
 
 placed_first : (o : Opening) → RowsKept o []
 placed_first o =
-    let l = limits o in
+    let s = shape o in
+    let n : ℕ = (limits o).records in
     record {
       free = λ place h.
-          let r = in_rows l 0 l.records place h in
-          let high : r.0 < l.records = omega arith in
-          let row : IsRow l place = subst (IsRow l) (sym r.3) (IsRow-row_address l r.0 high) in
+          let r = in_rows s 0 n place h in
+          let high : r.0 < n = omega arith in
+          let row : IsRow s place = subst (IsRow s) (sym r.3) (IsRow-row_address s r.0 high) in
           (opening_role-row o place row, row);
-      once = rows-distinct l 0 l.records;
+      once = rows-distinct s 0 n;
       all = λ place row _.
-          let r = row_number l place row in
-          subst (λ (p : ℕ). In p (rows_from l 0 l.records)) (sym r.2)
-          (row_in l 0 l.records r.0 (omega arith) (omega arith));
+          let r = row_number s place row in
+          subst (λ (p : ℕ). In p (rows_from s 0 n)) (sym r.2)
+          (row_in s 0 n r.0 (omega arith) (omega arith));
       held = λ hand place e. opening_role-held o place hand e;
       one = λ caller place other is e f. opening_role-held o place caller e;
     }
@@ -210,7 +211,7 @@ placed_pop o t by popped next may old =
       held = λ hand place mine.
           ⊎_elim
           (λ (taken : (popped ≡ place) × (by ≡ hand)).
-          (subst (IsRow (limits o)) taken.0 top.1, subst (IsHand o) taken.1 reader))
+          (subst (IsRow (shape o)) taken.0 top.1, subst (IsHand o) taken.1 reader))
           (old.held hand place)
           (held_before_pop o by popped next t hand place mine);
       one = popped_one o t by popped next may.1 old;
@@ -227,7 +228,7 @@ placed_push o t by pushed head may old =
           dite (ℕ_discrete pushed place)
           (λ (same : pushed ≡ place). (
             role_pushed o by pushed head t place same,
-            subst (IsRow (limits o)) same (old.held by pushed mine).0,
+            subst (IsRow (shape o)) same (old.held by pushed mine).0,
           ))
           (λ (differ : pushed ≢ place).
           let f = ⊎_elim
@@ -249,7 +250,7 @@ placed_push o t by pushed head may old =
 record Sited (o : Opening) (t : Execution) : Type 0 where
   rows : RowsKept o t
   -- a place in a buffer is a record row, and one in an array is of that array
-  buffers : (place group k : ℕ) → role o place t ≡ InBuffer group k → IsRow (limits o) place
+  buffers : (place group k : ℕ) → role o place t ≡ InBuffer group k → IsRow (shape o) place
   arrays : (place group k : ℕ) → role o place t ≡ InArray group k → IsArrayPlaceOf o group place
 
 -- a role that was set at one place
@@ -265,7 +266,7 @@ placed_set : (o : Opening) (t : Execution) (by : ℕ) (action : Action) (q : ℕ
     ((p : ℕ) → role o p (event by action ∷ t) ≡ cond (q == p) u (role o p t)) →
     (In q (free_stack o t) → ⊥) → (u ≡ Unused → ⊥) →
     ((hand : ℕ) → u ≡ HeldBy hand →
-    IsRow (limits o) q × IsHand o hand × (IsCaller o hand → ⊥)) →
+    IsRow (shape o) q × IsHand o hand × (IsCaller o hand → ⊥)) →
     RowsKept o (event by action ∷ t)
 placed_set o t by action q u old same roles taken some new =
     let before = λ (p : ℕ) (v : Role) (e : role o p (event by action ∷ t) ≡ v).
@@ -285,7 +286,7 @@ placed_set o t by action q u old same roles taken some new =
       held = λ hand place mine.
           ⊎_elim
           (λ (z : (q ≡ place) × (u ≡ HeldBy hand)).
-          let n = new hand z.1 in (subst (IsRow (limits o)) z.0 n.0, n.1))
+          let n = new hand z.1 in (subst (IsRow (shape o)) z.0 n.0, n.1))
           (λ (z : (q ≢ place) × (role o place t ≡ HeldBy hand)). old.held hand place z.1)
           (before place (HeldBy hand) mine);
       one = λ caller place other known mine also.
@@ -353,7 +354,7 @@ placed_begin o t by group low high first old =
           ⊎_elim (λ (z : role o place t ≡ Unused). old.rows.all place row z)
           (λ (z : (g : ℕ) × (k : ℕ) × (role o place t ≡ InArray g k)).
           let array = old.arrays place z.0 z.1 z.2 in
-          absurd (array_not_row (limits o) z.0 place array.group_exists array.in_array row))
+          absurd (array_not_row (shape o) z.0 place array.group_exists array.in_array row))
           (emptied_unused group (role o place t) free);
       held = λ hand place mine.
           old.rows.held hand place (emptied_held group (role o place t) hand mine);
@@ -364,30 +365,33 @@ placed_begin o t by group low high first old =
     }
 
 placed_step : (o : Opening) (t : Execution) (by : ℕ) (action : Action) → Allowed o t by action →
-    Sited o t → RowsKept o (event by action ∷ t)
-placed_step o t by (PopFree popped next) may old = placed_pop o t by popped next may old.rows
-placed_step o t by (PushFree pushed head) may old = placed_push o t by pushed head may old.rows
-placed_step o t by (LinkRow group lane q change before next) may old =
+    IsHand o by → Sited o t → RowsKept o (event by action ∷ t)
+placed_step o t by (PopFree popped next) may is_hand old = placed_pop o t by popped next may old.rows
+placed_step o t by (PushFree pushed head) may is_hand old = placed_push o t by pushed head may old.rows
+placed_step o t by (LinkRow group lane q change before next) may is_hand old =
     placed_set o t by (LinkRow group lane q change before next) q (InBuffer group (key_of change))
     old.rows refl (λ p. refl)
     (λ h. unused-held (sym (old.rows.free q h).0 ∙ may.mine)) (λ e. let bad = e in cc)
     (λ hand e. buffer_held e)
-placed_step o t by (Retire q next) may old =
+placed_step o t by (Retire q next) may is_hand old =
     let w = may.where_it_is in
     placed_set o t by (Retire q next) q (HeldBy by) old.rows refl (λ p. refl)
     (λ h. let bad : Unused ≡ InBuffer w.0 w.1 = sym (old.rows.free q h).0 ∙ w.2 in cc)
     (λ e. let bad = e in cc)
     (λ hand e.
-    let same : by ≡ hand = held_by-same e in let keeper = may.keeper in
-    (old.buffers q w.0 w.1 w.2, omega arith, λ known. omega (arith, known, same, keeper)))
-placed_step o t by (StoreRedirect group q k to) may old =
+    let same : by ≡ hand = held_by-same e in let keeper = may.keeper.3 in (
+      old.buffers q w.0 w.1 w.2,
+      subst (IsHand o) same is_hand,
+      λ known. omega (arith, known, same, keeper),
+    ))
+placed_step o t by (StoreRedirect group q k to) may is_hand old =
     placed_set o t by (StoreRedirect group q k to) q (InArray group k) old.rows refl (λ p. refl)
-    (λ h. array_not_row (limits o) group q may.in_array.group_exists may.in_array.in_array
+    (λ h. array_not_row (shape o) group q may.in_array.group_exists may.in_array.in_array
     (old.rows.free q h).1)
     (λ e. let bad = e in cc) (λ hand e. array_held e)
-placed_step o t by (NewGroup group low high first) may old =
+placed_step o t by (NewGroup group low high first) may is_hand old =
     placed_begin o t by group low high first old
-placed_step o t by action may old =
+placed_step o t by action may is_hand old =
     record {
       free = old.rows.free;
       once = old.rows.once;
@@ -398,7 +402,7 @@ placed_step o t by action may old =
 
 buffers_step : (o : Opening) (t : Execution) (by : ℕ) (action : Action) → Allowed o t by action →
     Sited o t → (place group k : ℕ) → role o place (event by action ∷ t) ≡ InBuffer group k →
-    IsRow (limits o) place
+    IsRow (shape o) place
 buffers_step o t by (PopFree q next) may old place group k e =
     ⊎_elim (λ (z : (q ≡ place) × (HeldBy by ≡ InBuffer group k)). buffer_held (sym z.1))
     (λ (z : (q ≢ place) × (role o place t ≡ InBuffer group k)). old.buffers place group k z.1)
@@ -410,7 +414,7 @@ buffers_step o t by (PushFree q head) may old place group k e =
 buffers_step o t by (LinkRow g lane q change before next) may old place group k e =
     ⊎_elim
     (λ (z : (q ≡ place) × (InBuffer g (key_of change) ≡ InBuffer group k)).
-    subst (IsRow (limits o)) z.0 (old.rows.held by q may.mine).0)
+    subst (IsRow (shape o)) z.0 (old.rows.held by q may.mine).0)
     (λ (z : (q ≢ place) × (role o place t ≡ InBuffer group k)). old.buffers place group k z.1)
     (set_before q place (InBuffer g (key_of change)) (role o place t) (InBuffer group k) e)
 buffers_step o t by (Retire q next) may old place group k e =
@@ -470,7 +474,7 @@ sited o [] valid =
 sited o (e ∷ t) valid =
     let old = sited o t valid.1 in
     record {
-      rows = placed_step o t e.by e.action valid.0 old;
+      rows = placed_step o t e.by e.action valid.0 valid.2 old;
       buffers = buffers_step o t e.by e.action valid.0 old;
       arrays = arrays_step o t e.by e.action valid.0 old;
     }
@@ -490,15 +494,15 @@ placed o t valid =
 
 -- a place in a buffer is a record row
 pub buffer_row : (o : Opening) (t : Execution) → Valid o t → (place group k : ℕ) →
-    role o place t ≡ InBuffer group k → IsRow (limits o) place
+    role o place t ≡ InBuffer group k → IsRow (shape o) place
 buffer_row o t valid place group k e = (sited o t valid).buffers place group k e
 
 -- and one in an array is none
 pub array_no_row : (o : Opening) (t : Execution) → Valid o t → (place group k : ℕ) →
-    role o place t ≡ InArray group k → IsRow (limits o) place → ⊥
+    role o place t ≡ InArray group k → IsRow (shape o) place → ⊥
 array_no_row o t valid place group k e row =
     let array = (sited o t valid).arrays place group k e in
-    array_not_row (limits o) group place array.group_exists array.in_array row
+    array_not_row (shape o) group place array.group_exists array.in_array row
 
 -- ---- what others leave ----
 

@@ -27,7 +27,7 @@ pub retiring_waits : RetiringWaitsForReaders
 retiring_waits o t hand place next may = may.unreached
 
 pub slots_wait : SlotsWaitForReaders
-slots_wait o t hand side i group may = may.unused.empty
+slots_wait o t hand part side i group may = may.unused.empty
 
 pub pushes_wait : PushesWaitForReaders
 pushes_wait o t hand place head may = may.unobserved

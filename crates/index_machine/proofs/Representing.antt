@@ -67,8 +67,8 @@ opening_represented o =
           (sym (opening_role-keyed o place keyed.0 keyed.1).1) refl;
       states = λ place keyed. state_of_row (first_version o) (opening_row o place);
       phases = λ group fresh. refl;
-      slots = λ side i. refl;
-      root_word = refl;
+      slots = λ part side i. refl;
+      root_word = λ part. refl;
     }
 
 -- a key that a place has after a role without key was set was there before, at another place

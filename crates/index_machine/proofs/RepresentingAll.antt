@@ -8,7 +8,7 @@ use Rattle.word_layout.specs.declared.places.Part.TheVariants as part
 use Rattle.word_layout.specs.declared.state.State.TheVariants as state
 use Rattle.word_layout.specs.Phase.{word_of_phase}
 use Rattle.word_layout.specs.State.{word_of_state}
-use Rattle.word_layout.specs.Words.{Header, PlaceWord, SlotGroup}
+use Rattle.word_layout.specs.Words.{Root, Header, PlaceWord, SlotGroup}
 use Rattle.map_model.specs.Map.{key_of}
 use Rattle.index_machine.specs.declared.events.Action.TheVariants.{LoadEpoch, Enter, Leave}
 use Rattle.index_machine.specs.declared.events.Action.TheVariants.{LoadFree, LoadFreeLink, PopFree}
@@ -33,7 +33,7 @@ use Rattle.index_machine.specs.Forms.{Form, Unlocked, Locked, Redirect, Moved}
 use Rattle.index_machine.specs.Forms.{with_lock, with_value, without_lock, made_direct, copied_away}
 use Rattle.index_machine.specs.Forms.{put_value, state_word, HasValueWord}
 use Rattle.index_machine.specs.Places.{first_version, form}
-use Rattle.index_machine.specs.Groups.{phase, slot}
+use Rattle.index_machine.specs.Groups.{phase, slot, root}
 use Rattle.index_machine.specs.Represents.{AllStepsRepresent}
 use Rattle.index_machine.specs.Represents.{WordsStandForTheState, has_stale_phase}
 use Rattle.index_machine.proofs.Stores.{store_apart}
@@ -275,8 +275,8 @@ all_represent (StoreHeader g header.Phase value) o t by valid old =
       slots = old.slots;
       root_word = old.root_word;
     }
-all_represent (StoreRoot w) o t by valid old =
-    let later : Execution = event by (StoreRoot w) ∷ t in
+all_represent (StoreRoot q w) o t by valid old =
+    let later : Execution = event by (StoreRoot q w) ∷ t in
     record {
       epochs = (counted o later valid).count;
       free_rows = linked o later valid;
@@ -285,10 +285,10 @@ all_represent (StoreRoot w) o t by valid old =
       states = old.states;
       phases = old.phases;
       slots = old.slots;
-      root_word = refl;
+      root_word = λ part. pick (q == part) w (word o t (Root part)) (root o part t) (old.root_word part);
     }
-all_represent (StoreSlot r j g) o t by valid old =
-    let later : Execution = event by (StoreSlot r j g) ∷ t in
+all_represent (StoreSlot q r j g) o t by valid old =
+    let later : Execution = event by (StoreSlot q r j g) ∷ t in
     let may = valid.0 in
     record {
       epochs = (counted o later valid).count;
@@ -297,13 +297,13 @@ all_represent (StoreSlot r j g) o t by valid old =
       values = old.values;
       states = old.states;
       phases = old.phases;
-      slots = λ side i.
-          pick ((r == side) && (j == i)) g (word o t (SlotGroup side i)) (slot o side i t)
-          (old.slots side i);
+      slots = λ part side i.
+          pick ((q == part) && ((r == side) && (j == i))) g (word o t (SlotGroup part side i))
+          (slot o part side i t) (old.slots part side i);
       root_word = old.root_word;
     }
-all_represent (StoreUnusedGroup r j g) o t by valid old =
-    let later : Execution = event by (StoreUnusedGroup r j g) ∷ t in
+all_represent (StoreUnusedGroup q r j g) o t by valid old =
+    let later : Execution = event by (StoreUnusedGroup q r j g) ∷ t in
     let may = valid.0 in
     record {
       epochs = (counted o later valid).count;
@@ -312,9 +312,9 @@ all_represent (StoreUnusedGroup r j g) o t by valid old =
       values = old.values;
       states = old.states;
       phases = old.phases;
-      slots = λ side i.
-          pick ((r == side) && (j == i)) g (word o t (SlotGroup side i)) (slot o side i t)
-          (old.slots side i);
+      slots = λ part side i.
+          pick ((q == part) && ((r == side) && (j == i))) g (word o t (SlotGroup part side i))
+          (slot o part side i t) (old.slots part side i);
       root_word = old.root_word;
     }
 all_represent (Install (NextOf left) lead low high) o t by valid old =
@@ -332,8 +332,8 @@ all_represent (Install (NextOf left) lead low high) o t by valid old =
       slots = old.slots;
       root_word = old.root_word;
     }
-all_represent (Install (FirstSlot r) lead low high) o t by valid old =
-    let later : Execution = event by (Install (FirstSlot r) lead low high) ∷ t in
+all_represent (Install (FirstSlot q r) lead low high) o t by valid old =
+    let later : Execution = event by (Install (FirstSlot q r) lead low high) ∷ t in
     let may = valid.0 in
     record {
       epochs = (counted o later valid).count;
@@ -342,9 +342,9 @@ all_represent (Install (FirstSlot r) lead low high) o t by valid old =
       values = old.values;
       states = old.states;
       phases = old.phases;
-      slots = λ side i.
-          pick ((r == side) && (0 == i)) lead (word o t (SlotGroup side i)) (slot o side i t)
-          (old.slots side i);
+      slots = λ part side i.
+          pick ((q == part) && ((r == side) && (0 == i))) lead (word o t (SlotGroup part side i))
+          (slot o part side i t) (old.slots part side i);
       root_word = old.root_word;
     }
 all_represent (NewGroup g low high first) o t by valid old =

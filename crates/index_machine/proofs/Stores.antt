@@ -13,12 +13,12 @@ use Rattle.index_machine.specs.declared.events.Action.TheVariants.{Copy, StoreDi
 use Rattle.index_machine.specs.declared.events.InstallWord.TheVariants.{NextOf, FirstSlot}
 use Rattle.index_machine.specs.declared.opening.Opening.{Opening}
 use Rattle.index_machine.specs.Execution.{Execution, event}
-use Rattle.index_machine.specs.Words.{limits, word}
+use Rattle.index_machine.specs.Words.{shape, word}
 use Rattle.index_machine.specs.Lanes.{HasLane}
 use Rattle.index_machine.specs.Rows.{InArray, InBuffer, role, role_key, Holds}
 use Rattle.index_machine.specs.Places.{IsInGroup}
 use Rattle.index_machine.specs.RecordConditions.{HasKey}
-use Rattle.index_machine.specs.RebuildConditions.{IsArrayPlaceOf}
+use Rattle.index_machine.specs.Keepers.{IsArrayPlaceOf}
 use Rattle.index_machine.specs.Conditions.{Allowed}
 use Rattle.index_machine.proofs.Options.{none_some}
 use Rattle.index_machine.proofs.OpeningRows.{array_not_row}
@@ -40,15 +40,15 @@ in_group_keyed o t g k q s =
     (λ (z : role o q t ≡ InBuffer g k). (k, ap role_key z)) s
 
 -- a record row is no place of an array
-array_apart : (o : Opening) (g q place : ℕ) → IsArrayPlaceOf o g q → IsRow (limits o) place →
+array_apart : (o : Opening) (g q place : ℕ) → IsArrayPlaceOf o g q → IsRow (shape o) place →
     q ≢ place
 array_apart o g q place array row e =
-    array_not_row (limits o) g q array.group_exists array.in_array
-    (subst (IsRow (limits o)) (sym e) row)
+    array_not_row (shape o) g q array.group_exists array.in_array
+    (subst (IsRow (shape o)) (sym e) row)
 
 -- the words of a record row that is in no group, and not in this hand
 pub keyless_words : (o : Opening) (t : Execution) (by : ℕ) (action : Action) →
-    Allowed o t by action → (place : ℕ) → IsRow (limits o) place →
+    Allowed o t by action → (place : ℕ) → IsRow (shape o) place →
     role_key (role o place t) ≡ None → (Holds o by place t → ⊥) → (part : Part) →
     word o (event by action ∷ t) (PlaceWord place part) ≡ word o t (PlaceWord place part)
 keyless_words o t by (StorePrivate q at value) may place row none other part =
@@ -82,7 +82,7 @@ keyless_words o t by (StoreRedirect group q k to) may place row none other part 
     (array_apart o group q place may.in_array row))
     refl
 keyless_words o t by (Install (NextOf left) first low high) may place row none other part = refl
-keyless_words o t by (Install (FirstSlot side) first low high) may place row none other part = refl
+keyless_words o t by (Install (FirstSlot root_part side) first low high) may place row none other part = refl
 keyless_words o t by (Close q expected) may place row none other part =
     let old = may.old in
     rw (ne_eqb q place

@@ -27,8 +27,9 @@ use Rattle.index_machine.specs.declared.events.Action.TheVariants.{LoadSlotGroup
 use Rattle.index_machine.specs.declared.events.Action.TheVariants.{StoreUnusedGroup, StoreRoot}
 use Rattle.index_machine.specs.declared.opening.Opening.{Opening}
 use Rattle.index_machine.specs.Execution.{Execution}
-use Rattle.index_machine.specs.Words.{limits, word}
-use Rattle.index_machine.specs.Sections.{IsCaller, IsKeeper, IsHand}
+use Rattle.index_machine.specs.Words.{shape, word}
+use Rattle.index_machine.specs.Sections.{IsCaller, IsHand}
+use Rattle.index_machine.specs.Keepers.{IsKeeper}
 use Rattle.index_machine.specs.Sections.{IsInside, IsOutside, crossings}
 pub use Rattle.index_machine.specs.Sections.{IsReading}
 use Rattle.index_machine.specs.Rows.{Unused, role, Holds, HoldsNone, free_stack}
@@ -78,7 +79,7 @@ next_epoch hand t = (crossings hand t + 1) % 2 ^ 64
 pub record MayStorePrivate (o : Opening) (hand place : ℕ) (part : Part) (value : ℕ)
     (t : Execution) : Type 0 where
   pub held : Holds o hand place t
-  pub fits : FitsPart (limits o) part value
+  pub fits : FitsPart (shape o) part value
 
 -- ---- the free stack ----
 
@@ -156,18 +157,18 @@ Allowed o t hand (StoreArray group place which value) = MayFillArray o t hand gr
 Allowed o t hand (StoreRedirect group place k to) = MayRedirect o t hand group place k to
 Allowed o t hand (StoreOpened group first) = MayOpen o t hand group first
 Allowed o t hand (Install spot lead low high) = MayInstall o t hand spot lead low high
-Allowed o t hand (StoreSlot side i group) = MayStoreSlot o t hand side i group
+Allowed o t hand (StoreSlot part side i group) = MayStoreSlot o t hand part side i group
 Allowed o t hand (Close place expected) = MayClose o t hand place expected
 Allowed o t hand (Copy place value) = MayCopy o t hand place
 Allowed o t hand (StoreDirect place from k removed stored) =
     MayDirect o t hand place from k removed stored
 Allowed o t hand (StoreMoved place) = MayMove o t hand place
-Allowed o t hand (LoadRoot found) = MayLoadRoot o hand found t
-Allowed o t hand (LoadSlotPivot side i found) = MayLoadSlotPivot o hand side i found t
-Allowed o t hand (LoadSlotGroup side i found) = MayLoadSlotGroup o hand side i found t
-Allowed o t hand (StoreUnusedPivot side i pivot) = MayStoreUnused o t hand side i
-Allowed o t hand (StoreUnusedGroup side i group) = MayStoreUnused o t hand side i
-Allowed o t hand (StoreRoot stored) = MayStoreRoot o t hand stored
+Allowed o t hand (LoadRoot part found) = MayLoadRoot o hand part found t
+Allowed o t hand (LoadSlotPivot part side i found) = MayLoadSlotPivot o hand part side i found t
+Allowed o t hand (LoadSlotGroup part side i found) = MayLoadSlotGroup o hand part side i found t
+Allowed o t hand (StoreUnusedPivot part side i pivot) = MayStoreUnused o t hand part side i
+Allowed o t hand (StoreUnusedGroup part side i group) = MayStoreUnused o t hand part side i
+Allowed o t hand (StoreRoot part stored) = MayStoreRoot o t hand part stored
 
 -- each event met its condition when it was made, and is that of a hand
 abbrev pub Valid : Opening → Execution → Type 0

@@ -1,4 +1,4 @@
--- The phase of a group, the rebuild that made it, and what the root names.
+-- The phase of a group, the rebuild that made it, and what the roots name.
 use Rattle.std.specs.Prelude.{◌≡◌, ℕ, ◌+◌, ◌*◌, ◌<◌, Bool, cond, ◌==◌, ◌&&◌, Option, Some}
 use Rattle.std.specs.Prelude.{None, [], ◌∷◌}
 use Rattle.word_layout.specs.declared.phase.Phase.{Phase}
@@ -54,36 +54,39 @@ rebuild group (e ∷ t) = rebuild_after group e.action (rebuild group t)
 
 -- ---- the root ----
 
--- whether these are one slot
-abbrev pub same_slot : ℕ → ℕ → ℕ → ℕ → Bool
-same_slot side i other j = (side == other) && (i == j)
+-- whether two slots are one: of one part and side, and with one number
+abbrev pub same_slot : ℕ → ℕ → ℕ → ℕ → ℕ → ℕ → Bool
+same_slot part side i other_part other j = (part == other_part) && ((side == other) && (i == j))
 
 -- the group that a slot names after an install by this word, where it named this group before
-abbrev pub slot_installed : ℕ → ℕ → InstallWord → ℕ → ℕ → ℕ
-slot_installed side i (NextOf left) first group = group
-slot_installed side i (FirstSlot s) first group = cond (same_slot s 0 side i) first group
+abbrev pub slot_installed : ℕ → ℕ → ℕ → InstallWord → ℕ → ℕ → ℕ
+slot_installed part side i (NextOf left) first group = group
+slot_installed part side i (FirstSlot p s) first group =
+    cond (same_slot p s 0 part side i) first group
 
 -- the group that a slot names after an action, where it named this group before
-abbrev pub slot_after : ℕ → ℕ → Action → ℕ → ℕ
-slot_after side i (StoreSlot s j g) group = cond (same_slot s j side i) g group
-slot_after side i (StoreUnusedGroup s j g) group = cond (same_slot s j side i) g group
-slot_after side i (Install spot lead low high) group = slot_installed side i spot lead group
-slot_after side i _ group = group
+abbrev pub slot_after : ℕ → ℕ → ℕ → Action → ℕ → ℕ
+slot_after part side i (StoreSlot p s j g) group = cond (same_slot p s j part side i) g group
+slot_after part side i (StoreUnusedGroup p s j g) group =
+    cond (same_slot p s j part side i) g group
+slot_after part side i (Install spot lead low high) group =
+    slot_installed part side i spot lead group
+slot_after part side i _ group = group
 
--- the group that a slot of a side of the root names
-abbrev pub slot : Opening → ℕ → ℕ → Execution → ℕ
-slot o side i [] = opening_slot o side i
-slot o side i (e ∷ t) = slot_after side i e.action (slot o side i t)
+-- the group that a slot of a side of a part's root names
+abbrev pub slot : Opening → ℕ → ℕ → ℕ → Execution → ℕ
+slot o part side i [] = opening_slot o part side i
+slot o part side i (e ∷ t) = slot_after part side i e.action (slot o part side i t)
 
--- the root word after an action, where it was this before
-abbrev pub root_after : Action → ℕ → ℕ
-root_after (StoreRoot word) w = word
-root_after _ w = w
+-- the root word of a part after an action, where it was this before
+abbrev pub root_after : ℕ → Action → ℕ → ℕ
+root_after part (StoreRoot p word) w = cond (p == part) word w
+root_after part _ w = w
 
--- the root word
-abbrev pub root : Opening → Execution → ℕ
-root o [] = opening_root o
-root o (e ∷ t) = root_after e.action (root o t)
+-- the root word of a part
+abbrev pub root : Opening → ℕ → Execution → ℕ
+root o part [] = opening_root o part
+root o part (e ∷ t) = root_after part e.action (root o part t)
 
 -- a root word names this slot as one in use
 abbrev pub IsInUse : ℕ → ℕ → ℕ → Type 0

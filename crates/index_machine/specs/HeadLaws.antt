@@ -7,7 +7,7 @@ use Rattle.index_machine.specs.declared.events.Action.{Action}
 use Rattle.index_machine.specs.declared.events.Action.TheVariants.{PushFree}
 use Rattle.index_machine.specs.declared.opening.Opening.{Opening}
 use Rattle.index_machine.specs.Execution.{Execution}
-use Rattle.index_machine.specs.Words.{limits, word}
+use Rattle.index_machine.specs.Words.{shape, word}
 use Rattle.index_machine.specs.Sections.{IsCaller, IsInside, HasLeft}
 use Rattle.index_machine.specs.Rows.{Unused, role}
 use Rattle.index_machine.specs.ObservedHeads.{HeadAndLink, observed_head, Observes}
@@ -19,7 +19,7 @@ pub record HeadsHold (o : Opening) (t : Execution) : Type 0 where
   pub inside : (caller place : ℕ) → IsCaller o caller → Observes caller place t →
       IsInside caller t
   pub row : (caller place : ℕ) → IsCaller o caller → Observes caller place t →
-      IsRow (limits o) place
+      IsRow (shape o) place
   -- while the row is free, its link is the one that was loaded
   pub link : (caller place n : ℕ) → IsCaller o caller →
       observed_head caller t ≡ HeadAndLink place n → role o place t ≡ Unused →

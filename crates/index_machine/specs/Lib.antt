@@ -3,6 +3,7 @@ pub mod Lists
 pub mod OpeningRows
 pub mod Words
 pub mod Lanes
+pub mod Keepers
 pub mod Sections
 pub mod Rows
 pub mod ObservedHeads

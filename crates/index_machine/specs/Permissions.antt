@@ -35,17 +35,17 @@ IsUnopened group t = (first : ℕ) → phase group t ≢ Opened first
 
 -- ---- groups out of the chain ----
 
--- a hand can load the slot: it is in use, or a caller loaded the root while it was
-abbrev pub IsReadableSlot : Opening → ℕ → ℕ → Execution → Type 0
-IsReadableSlot o side i t =
-    IsInUse (root o t) side i
-    ⊎ ((caller : ℕ) × IsCaller o caller × SeesSlot caller side i t)
+-- a hand can load the slot: it is in use, or a caller loaded its root while it was
+abbrev pub IsReadableSlot : Opening → ℕ → ℕ → ℕ → Execution → Type 0
+IsReadableSlot o part side i t =
+    IsInUse (root o part t) side i
+    ⊎ ((caller : ℕ) × IsCaller o caller × SeesSlot caller part side i t)
 
--- the group is out of the chain, nothing that can be loaded in the root names it, and no caller
+-- the group is out of the chain, nothing that can be loaded in a root names it, and no caller
 -- stands there
 pub record IsGone (o : Opening) (group : ℕ) (t : Execution) : Type 0 where
   pub unowned : (k : ℕ) → group_of o k t ≢ group
-  pub unnamed : (side i : ℕ) → IsReadableSlot o side i t → slot o side i t ≢ group
+  pub unnamed : (part side i : ℕ) → IsReadableSlot o part side i t → slot o part side i t ≢ group
   pub empty : (caller : ℕ) → IsCaller o caller → stands_in caller group t ≡ true → ⊥
 
 -- all groups that were opened to this rebuild are gone
@@ -61,7 +61,8 @@ IsReplaced o group t = (first : ℕ) × (phase group t ≡ Opened first) × AreG
 abbrev pub IsReachable : Opening → ℕ → ℕ → Execution → Type 0
 IsReachable o hand group t =
     ((k : ℕ) × (group_of o k t ≡ group))
-    ⊎ (((side : ℕ) × (i : ℕ) × SeesSlot hand side i t × (slot o side i t ≡ group))
+    ⊎ (((part : ℕ) × (side : ℕ) × (i : ℕ) × SeesSlot hand part side i t
+    × (slot o part side i t ≡ group))
     ⊎ (((old : ℕ) × (first : ℕ) × (stands_in hand old t ≡ true) × (phase old t ≡ Opened first)
     × (phase group t ≡ Opened first))
     ⊎ (((first : ℕ) × (rebuild group t ≡ Some first) × (saw_opened hand first t ≡ true))

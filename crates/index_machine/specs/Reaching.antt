@@ -1,4 +1,4 @@
--- What a caller came to in its present read section: a side of the root, groups, places, and leave
+-- What a caller came to in its present read section: a side of a root, groups, places, and leave
 -- to insert.
 use Rattle.std.specs.Prelude.{◌≡◌, ℕ, zero, suc, ◌+◌, Bool, true, false, cond, ◌==◌, ◌&&◌, Option}
 use Rattle.std.specs.Prelude.{Some, None}
@@ -14,22 +14,22 @@ use Rattle.index_machine.specs.declared.events.Action.TheVariants.{LoadSlotGroup
 use Rattle.index_machine.specs.Execution.{Execution, own}
 use Rattle.index_machine.specs.Groups.{IsInUse}
 
--- ---- the root ----
+-- ---- the roots ----
 
--- the root word that a hand loaded last, after an action, its own or not
-abbrev pub root_seen_after : Bool → Action → Option ℕ → Option ℕ
-root_seen_after mine (Enter n) w = cond mine None w
-root_seen_after mine (Leave n) w = cond mine None w
-root_seen_after mine (LoadRoot found) w = cond mine (Some found) w
-root_seen_after mine _ w = w
+-- the root word of a part that a hand loaded last, after an action, its own or not
+abbrev pub root_seen_after : ℕ → Bool → Action → Option ℕ → Option ℕ
+root_seen_after part mine (Enter n) w = cond mine None w
+root_seen_after part mine (Leave n) w = cond mine None w
+root_seen_after part mine (LoadRoot p found) w = cond mine (cond (p == part) (Some found) w) w
+root_seen_after part mine _ w = w
 
--- the root word that it loaded last
-abbrev pub root_seen : ℕ → Execution → Option ℕ
-root_seen hand t = own root_seen_after None hand t
+-- the root word of this part that the hand loaded last, in its present read section
+abbrev pub root_seen : ℕ → ℕ → Execution → Option ℕ
+root_seen hand part t = own (root_seen_after part) None hand t
 
--- the slot is in use by the root word that the hand loaded last
-abbrev pub SeesSlot : ℕ → ℕ → ℕ → Execution → Type 0
-SeesSlot hand side i t = (w : ℕ) × (root_seen hand t ≡ Some w) × IsInUse w side i
+-- the slot is in use by the root word of its part that the hand loaded last
+abbrev pub SeesSlot : ℕ → ℕ → ℕ → ℕ → Execution → Type 0
+SeesSlot hand part side i t = (w : ℕ) × (root_seen hand part t ≡ Some w) × IsInUse w side i
 
 -- ---- phases ----
 
@@ -63,7 +63,7 @@ saw_opened hand first t = own (saw_opened_after first) false hand t
 abbrev pub stands_in_after : ℕ → Bool → Action → Bool → Bool
 stands_in_after group mine (Enter n) b = cond mine false b
 stands_in_after group mine (Leave n) b = cond mine false b
-stands_in_after group mine (LoadSlotGroup side i found) b =
+stands_in_after group mine (LoadSlotGroup part side i found) b =
     cond mine (cond (found == group) true b) b
 stands_in_after group mine (LoadNext g found) b = cond mine (cond (found == group + 1) true b) b
 stands_in_after group mine (LoadPhase g found) b =

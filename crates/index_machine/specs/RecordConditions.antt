@@ -15,11 +15,12 @@ use Rattle.index_machine.specs.declared.opening.Opening.{Opening}
 use Rattle.index_machine.specs.Execution.{Execution}
 use Rattle.index_machine.specs.Words.{word, link_behind}
 use Rattle.index_machine.specs.Lanes.{HasLane, lanes}
-use Rattle.index_machine.specs.Sections.{IsCaller, IsKeeper, IsReading}
+use Rattle.index_machine.specs.Sections.{IsCaller, IsReading}
+use Rattle.index_machine.specs.Keepers.{IsGroupKeeper, IsKeeperAt}
 use Rattle.index_machine.specs.Rows.{HeldBy, InArray, InBuffer, role_key, role}
 use Rattle.index_machine.specs.Forms.{Unlocked, Locked, Redirect, IsLockedBy, state_word}
 use Rattle.index_machine.specs.Forms.{HasValueWord, last_version}
-use Rattle.index_machine.specs.Places.{first_version, form}
+use Rattle.index_machine.specs.Places.{first_version, form, IsInGroup}
 use Rattle.index_machine.specs.LivePlaces.{live_place}
 use Rattle.index_machine.specs.Reaching.{stands_in, reached}
 use Rattle.index_machine.specs.Permissions.{MayInsertInto, IsBufferFor, IsReplaced}
@@ -38,9 +39,14 @@ pub record IsAt (o : Opening) (hand place : ℕ) (t : Execution) : Type 0 where
   pub reading : IsReading o hand t
   pub there : IsInArrayOf o hand place t ⊎ (reached hand place t ≡ true)
 
--- the hand may load a word of the place
+-- the hand may load a word of the place: a keeper may, where it is of its part or a record row
 abbrev pub MayLookAt : Opening → ℕ → ℕ → Execution → Type 0
-MayLookAt o hand place t = IsAt o hand place t ⊎ IsKeeper o hand
+MayLookAt o hand place t = IsAt o hand place t ⊎ IsKeeperAt o hand place
+
+-- the place is in a group, and the hand is that of the keeper of its part
+abbrev pub KeepsPlace : Opening → Execution → ℕ → ℕ → Type 0
+KeepsPlace o t hand place =
+    (group : ℕ) × (k : ℕ) × IsInGroup o t group k place × IsGroupKeeper o hand group
 
 -- the hand holds no version lock
 abbrev pub HoldsNoLock : Opening → ℕ → Execution → Type 0
@@ -126,10 +132,10 @@ abbrev pub IsLinkInto : Opening → ℕ → ℕ → ℕ → Execution → Type 0
 IsLinkInto o group lane found t =
     (found ≡ 0) ⊎ ((k : ℕ) × (role o found t ≡ InBuffer group k) × HasLane o group lane k t)
 
--- the caller stands in the group, or the hand is the keeper's
+-- the caller stands in the group, or the hand is that of the keeper of the group's part
 abbrev pub MayWalk : Opening → ℕ → ℕ → Execution → Type 0
 MayWalk o hand group t =
-    (IsReading o hand t × (stands_in hand group t ≡ true)) ⊎ IsKeeper o hand
+    (IsReading o hand t × (stands_in hand group t ≡ true)) ⊎ IsGroupKeeper o hand group
 
 -- the hand may load this head of a lane
 pub record MayLoadHead (o : Opening) (hand group lane found : ℕ) (t : Execution) : Type 0 where
@@ -187,7 +193,7 @@ pub record MayFailLink (o : Opening) (hand group lane before expected found : �
 
 -- the keeper may take a row out of an old buffer: nothing leads there any more
 pub record MayRetire (o : Opening) (t : Execution) (hand place next : ℕ) : Type 0 where
-  pub keeper : IsKeeper o hand
+  pub keeper : KeepsPlace o t hand place
   pub found_word : word o t (PlaceWord place part.Link) ≡ next
   pub not_live : (k : ℕ) → live_place o k t ≢ Some place
   pub no_target : (a y : ℕ) → form o a t ≢ Redirect place y

@@ -11,6 +11,7 @@ use Rattle.index_machine.specs.declared.events.Action.TheVariants.{StoreUnusedGr
 use Rattle.index_machine.specs.declared.events.Action.TheVariants.{Install, Close, StoreDirect}
 use Rattle.index_machine.specs.declared.opening.Opening.{Opening}
 use Rattle.index_machine.specs.Execution.{Execution}
+use Rattle.index_machine.specs.Keepers.{part_of, IsKeyIn}
 use Rattle.index_machine.specs.Sections.{IsCaller}
 use Rattle.index_machine.specs.ObservedHeads.{Observes}
 use Rattle.index_machine.specs.Rows.{InArray, InBuffer, role}
@@ -36,11 +37,11 @@ OpeningWaitsForInserters =
     (o : Opening) (t : Execution) (hand group first : ℕ) →
     Allowed o t hand (StoreOpened group first) → IsClosedToInserts o group t
 
--- a group is begun anew only while no group of the chain is opened to a rebuild
+-- a group is begun anew only while no group of its part's chain is opened to a rebuild
 abbrev pub BeginningsWaitForInstalls : Type 0
 BeginningsWaitForInstalls =
     (o : Opening) (t : Execution) (hand group low high first : ℕ) →
-    Allowed o t hand (NewGroup group low high first) → (k old : ℕ) →
+    Allowed o t hand (NewGroup group low high first) → (k old : ℕ) → IsKeyIn o (part_of o group) k →
     phase (group_of o k t) t ≢ Opened old
 
 -- a new place is made direct only once nobody walks an old group of the rebuild
@@ -66,9 +67,9 @@ RetiringWaitsForReaders =
 -- a slot of a side that the root does not name is stored only once no caller is on this side
 abbrev pub SlotsWaitForReaders : Type 0
 SlotsWaitForReaders =
-    (o : Opening) (t : Execution) (hand side i group : ℕ) →
-    Allowed o t hand (StoreUnusedGroup side i group) →
-    (caller j : ℕ) → IsCaller o caller → SeesSlot caller side j t → ⊥
+    (o : Opening) (t : Execution) (hand part side i group : ℕ) →
+    Allowed o t hand (StoreUnusedGroup part side i group) →
+    (caller j : ℕ) → IsCaller o caller → SeesSlot caller part side j t → ⊥
 
 -- a row is given back only once no caller observes it as a head
 abbrev pub PushesWaitForReaders : Type 0

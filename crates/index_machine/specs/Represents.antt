@@ -1,8 +1,7 @@
 -- When the words stand for the state: a fact for each kind of word but those of buffers and of the chain.
 --
 -- A hand learns the state from the words that it loads, so each of its conditions is shown from
--- these facts. The lanes of the buffers, their lists and the chain of the groups have their own laws; values
--- of two words change `values`.
+-- these facts. The lanes of the buffers, their lists and the chain of the groups have their own laws.
 use Rattle.std.specs.Prelude.{◌≡◌, ℕ, ◌%◌, ◌^◌, Bool, true, false, cond, ◌==◌, Some, []}
 use Rattle.std.specs.Prelude.{◌∷◌}
 use Rattle.word_layout.specs.declared.headers.HeaderWord.TheVariants as header
@@ -67,8 +66,8 @@ pub record IsRepresented (o : Opening) (t : Execution) : Type 0 where
       word o t (PlaceWord place part.State) ≡ state_word (form o place t)
   pub phases : (group : ℕ) → has_stale_phase group t ≡ false →
       word o t (Header group header.Phase) ≡ word_of_phase (phase group t)
-  pub slots : (side i : ℕ) → word o t (SlotGroup side i) ≡ slot o side i t
-  pub root_word : word o t Root ≡ root o t
+  pub slots : (part side i : ℕ) → word o t (SlotGroup part side i) ≡ slot o part side i t
+  pub root_word : (part : ℕ) → word o t (Root part) ≡ root o part t
 
 -- an action of this kind leaves words that stand for the state
 abbrev pub Represents : Action → Type 0

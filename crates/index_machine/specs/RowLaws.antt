@@ -7,10 +7,10 @@ use Rattle.word_layout.specs.Words.{Word, FreeHead, PlaceWord}
 use Rattle.index_machine.specs.declared.opening.Opening.{Opening}
 use Rattle.index_machine.specs.Execution.{Execution, Without}
 use Rattle.index_machine.specs.Lists.{In, AreDistinct}
-use Rattle.index_machine.specs.Words.{limits, word}
+use Rattle.index_machine.specs.Words.{shape, word}
 use Rattle.index_machine.specs.Sections.{IsCaller, IsHand}
 use Rattle.index_machine.specs.Rows.{Unused, InArray, InBuffer, role, Holds, free_stack}
-use Rattle.index_machine.specs.RebuildConditions.{IsArrayPlaceOf}
+use Rattle.index_machine.specs.Keepers.{IsArrayPlaceOf}
 use Rattle.index_machine.specs.Conditions.{Valid}
 
 -- ---- whose each row is ----
@@ -19,15 +19,15 @@ use Rattle.index_machine.specs.Conditions.{Valid}
 -- it, or in one buffer
 pub record RowsPlaced (o : Opening) (t : Execution) : Type 0 where
   pub free : (place : ℕ) → In place (free_stack o t) →
-      (role o place t ≡ Unused) × IsRow (limits o) place
+      (role o place t ≡ Unused) × IsRow (shape o) place
   pub once : AreDistinct (free_stack o t)
-  pub all : (place : ℕ) → IsRow (limits o) place → role o place t ≡ Unused →
+  pub all : (place : ℕ) → IsRow (shape o) place → role o place t ≡ Unused →
       In place (free_stack o t)
-  pub held : (hand place : ℕ) → Holds o hand place t → IsRow (limits o) place × IsHand o hand
+  pub held : (hand place : ℕ) → Holds o hand place t → IsRow (shape o) place × IsHand o hand
   -- a caller holds one row at most
   pub one : (caller place other : ℕ) → IsCaller o caller → Holds o caller place t →
       Holds o caller other t → place ≡ other
-  pub buffered : (group k place : ℕ) → role o place t ≡ InBuffer group k → IsRow (limits o) place
+  pub buffered : (group k place : ℕ) → role o place t ≡ InBuffer group k → IsRow (shape o) place
   -- a place in an array is none of the rows
   pub arrayed : (group k place : ℕ) → role o place t ≡ InArray group k →
       IsArrayPlaceOf o group place
@@ -70,5 +70,5 @@ FreeStackIsLinked = (o : Opening) (t : Execution) → Valid o t → IsLinked o t
 -- the link of each record row, free or in a hand, names a record row, or none
 abbrev pub LinksNameRows : Type 0
 LinksNameRows =
-    (o : Opening) (t : Execution) → Valid o t → (place : ℕ) → IsRow (limits o) place →
-    FitsPart (limits o) Link (word o t (PlaceWord place Link))
+    (o : Opening) (t : Execution) → Valid o t → (place : ℕ) → IsRow (shape o) place →
+    FitsPart (shape o) Link (word o t (PlaceWord place Link))

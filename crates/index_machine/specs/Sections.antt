@@ -1,10 +1,11 @@
 -- Read sections: a caller is inside between an entry and the exit that follows it.
-use Rattle.std.specs.Prelude.{◌≡◌, ℕ, ◌+◌, ◌%◌, ◌<◌, ◌≤◌, Bool, cond, [], ◌∷◌}
+use Rattle.std.specs.Prelude.{◌≡◌, ℕ, ◌+◌, ◌%◌, ◌<◌, Bool, cond, [], ◌∷◌}
 use Rattle.index_machine.specs.declared.events.Action.{Action}
 use Rattle.index_machine.specs.declared.events.Action.TheVariants.{Enter, Leave}
 use Rattle.index_machine.specs.declared.opening.Opening.{Opening}
 use Rattle.index_machine.specs.Execution.{Execution, own}
-use Rattle.index_machine.specs.Words.{limits}
+use Rattle.word_layout.specs.Shape.{parts_in}
+use Rattle.index_machine.specs.Words.{limits, shape}
 
 -- ---- hands ----
 
@@ -12,13 +13,9 @@ use Rattle.index_machine.specs.Words.{limits}
 abbrev pub IsCaller : Opening → ℕ → Type 0
 IsCaller o hand = hand < (limits o).callers
 
--- the number of the keeper's hand
-abbrev pub IsKeeper : Opening → ℕ → Type 0
-IsKeeper o hand = hand ≡ (limits o).callers
-
--- the number of a hand
+-- the number of a hand: a caller's, or the keeper's of a part
 abbrev pub IsHand : Opening → ℕ → Type 0
-IsHand o hand = hand ≤ (limits o).callers
+IsHand o hand = hand < (limits o).callers + parts_in (shape o)
 
 -- ---- inside and outside ----
 

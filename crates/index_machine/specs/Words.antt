@@ -1,7 +1,7 @@
 -- The words that an execution leaves.
 --
 -- The fact to remember: they are the opening words with the stores of the events made in order.
-use Rattle.std.specs.Prelude.{ℕ, zero, suc, ◌+◌, cond, ◌==◌, nat_lt, Option, Some, None, List, []}
+use Rattle.std.specs.Prelude.{◌==◌, ◌&&◌, ℕ, zero, suc, ◌+◌, cond, nat_lt, Option, Some, None, List, []}
 use Rattle.std.specs.Prelude.{◌∷◌, length}
 use Rattle.line_window.specs.Line.{error_of}
 use Rattle.rebuild_plan.specs.Plan.{lane_count}
@@ -13,7 +13,10 @@ use Rattle.word_layout.specs.declared.phase.Phase.TheVariants.{Open, Frozen, Ope
 use Rattle.word_layout.specs.declared.state.State.TheVariants.{Redirect, Moved}
 use Rattle.word_layout.specs.Phase.{word_of_phase}
 use Rattle.word_layout.specs.State.{word_of_state}
-use Rattle.word_layout.specs.Layout.{limits_of}
+use Rattle.word_layout.specs.Shape.{Shape, first_group_of}
+use Rattle.word_layout.specs.Parts.{first_key_of}
+use Rattle.word_layout.specs.declared.headers.HeaderWord.{HeaderWord}
+use Rattle.word_layout.specs.Layout.{limits_of, shape_of}
 use Rattle.word_layout.specs.Addresses.{row_address}
 use Rattle.word_layout.specs.Places.{next_row}
 use Rattle.word_layout.specs.Root.{word_of_root}
@@ -38,11 +41,15 @@ use Rattle.index_machine.specs.declared.events.InstallWord.TheVariants.{NextOf, 
 use Rattle.index_machine.specs.declared.opening.Opening.{Opening}
 use Rattle.index_machine.specs.Execution.{Execution}
 use Rattle.index_machine.specs.OpeningRows.{opening_row, key_word, value_word, row_state_word}
-use Rattle.index_machine.specs.OpeningRows.{keys_in}
+use Rattle.index_machine.specs.OpeningRows.{is_in_opening_chain, opening_pivot, opening_keys}
 
 -- the limits of the table
 abbrev pub limits : Opening → Limits
 limits o = limits_of o.layout
+
+-- the shape of the table: its limits, and the bounds of its parts
+abbrev pub shape : Opening → Shape
+shape o = shape_of o.layout
 
 -- ---- the stores ----
 
@@ -63,7 +70,7 @@ link_behind group lane (suc n) = PlaceWord (suc n) Link
 -- the store that takes new groups into the chain
 abbrev pub install_store : InstallWord → ℕ → Store
 install_store (NextOf left) first = store (Header left header.Next) (first + 1)
-install_store (FirstSlot side) first = store (SlotGroup side 0) first
+install_store (FirstSlot part side) first = store (SlotGroup part side 0) first
 
 -- what an action of a hand stores: one word, or nothing
 abbrev pub store_of : ℕ → Action → Option Store
@@ -87,14 +94,14 @@ store_of hand (StoreRedirect group place k to) =
 store_of hand (StoreOpened group first) =
     Some (store (Header group header.Phase) (word_of_phase (Opened first)))
 store_of hand (Install at first low high) = Some (install_store at first)
-store_of hand (StoreSlot side i group) = Some (store (SlotGroup side i) group)
+store_of hand (StoreSlot part side i group) = Some (store (SlotGroup part side i) group)
 store_of hand (Close place expected) = Some (store (PlaceWord place State) (expected + 4))
 store_of hand (Copy place value) = Some (store (PlaceWord place Value) value)
 store_of hand (StoreDirect place from k removed word) = Some (store (PlaceWord place State) word)
 store_of hand (StoreMoved place) = Some (store (PlaceWord place State) (word_of_state Moved))
-store_of hand (StoreUnusedPivot side i pivot) = Some (store (SlotPivot side i) pivot)
-store_of hand (StoreUnusedGroup side i group) = Some (store (SlotGroup side i) group)
-store_of hand (StoreRoot word) = Some (store Root word)
+store_of hand (StoreUnusedPivot part side i pivot) = Some (store (SlotPivot part side i) pivot)
+store_of hand (StoreUnusedGroup part side i group) = Some (store (SlotGroup part side i) group)
+store_of hand (StoreRoot part word) = Some (store (Root part) word)
 store_of hand _ = None
 
 -- what a word holds after a store, if there is one
@@ -104,31 +111,41 @@ stored (Some s) w n = cond (same_word s.word w) s.value n
 
 -- ---- the words ----
 
--- the cut of a lane of group 0 as the table is opened, or 0 where there is no such lane
-abbrev pub opening_cut : List ℕ → ℕ → ℕ
-opening_cut keys lane = cond (nat_lt lane (lane_count (length keys))) (cut_of 0 keys lane) 0
+-- the cut of a lane of a group with this pivot and these keys as the table is opened, or 0 where there is no
+-- such lane
+abbrev pub opening_cut : ℕ → List ℕ → ℕ → ℕ
+opening_cut pivot keys lane = cond (nat_lt lane (lane_count (length keys))) (cut_of pivot keys lane) 0
 
--- a word of the table as it is opened: all record rows are on the free stack, row 0 first, every
--- caller is outside, and the root names side 0, on which one slot is in use; it has the pivot 0 and
--- names group 0, whose array has the opening's rows, and its buffer the lanes that the plan cuts for them
+-- a header word of a group as the table is opened
+abbrev pub opening_header : Opening → ℕ → HeaderWord → ℕ
+opening_header o group header.Pivot = cond (is_in_opening_chain o group) (opening_pivot o group) 0
+opening_header o group header.Size = length (opening_keys o group)
+opening_header o group header.LineError = error_of (opening_keys o group)
+opening_header o group header.Lanes =
+    cond (is_in_opening_chain o group) (lane_count (length (opening_keys o group))) 0
+opening_header o group (header.Cut lane) =
+    cond (is_in_opening_chain o group) (opening_cut (opening_pivot o group) (opening_keys o group) lane) 0
+opening_header o group _ = 0
+
+-- a word of the table as it is opened
+--
+-- All record rows are on the free stack, row 0 first. Every caller is outside. Each part's root has one slot in use,
+-- on side 0. That slot has the part's least key and names its first group. The array of that group has the part's
+-- rows. Its buffer has the lanes that the plan cuts for them.
 abbrev pub opening_word : Opening → Word → ℕ
-opening_word o FreeHead = row_address (limits o) 0
-opening_word o Root = word_of_root 1 0
+opening_word o FreeHead = row_address (shape o) 0
+opening_word o (Root part) = word_of_root 1 0
 opening_word o (Epoch caller) = 0
-opening_word o (SlotPivot side i) = 0
-opening_word o (SlotGroup side i) = 0
-opening_word o (Header group header.Size) = cond (group == 0) (length o.rows) 0
-opening_word o (Header group header.LineError) = cond (group == 0) (error_of (keys_in o.rows)) 0
-opening_word o (Header group header.Lanes) =
-    cond (group == 0) (lane_count (length (keys_in o.rows))) 0
-opening_word o (Header group (header.Cut lane)) =
-    cond (group == 0) (opening_cut (keys_in o.rows) lane) 0
-opening_word o (Header group _) = 0
+opening_word o (SlotPivot part side i) =
+    cond ((side == 0) && (i == 0)) (first_key_of (shape o).bounds part) 0
+opening_word o (SlotGroup part side i) =
+    cond ((side == 0) && (i == 0)) (first_group_of (shape o) part) 0
+opening_word o (Header group which) = opening_header o group which
 opening_word o (PlaceWord place Key) = key_word (opening_row o place)
 opening_word o (PlaceWord place Value) = value_word (opening_row o place)
 opening_word o (PlaceWord place State) =
     row_state_word (limits o).first_version (opening_row o place)
-opening_word o (PlaceWord place Link) = next_row (limits o) place
+opening_word o (PlaceWord place Link) = next_row (shape o) place
 
 -- what a word holds after the execution
 abbrev pub word : Opening → Execution → Word → ℕ

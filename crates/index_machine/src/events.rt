@@ -1,7 +1,6 @@
 //! The events of an execution. No value of these types is made: contracts alone speak of them.
 //!
-//! Every kind of step has a variant here. Values of two words and several keepers change fields of
-//! these variants and their conditions, and add none.
+//! Every kind of step has a variant here.
 use map_model::Change;
 use word_layout::{HeaderWord, Part};
 
@@ -9,8 +8,8 @@ use word_layout::{HeaderWord, Part};
 pub enum InstallWord {
     /// The next word of the left neighbour.
     NextOf { group: u64 },
-    /// Where there is no left neighbour, the group word of the first slot in use.
-    FirstSlot { side: u64 },
+    /// Where there is no left neighbour, the group word of the first slot in use of the part's root.
+    FirstSlot { part: u64, side: u64 },
 }
 
 /// What one atomic step did, with the word that it loaded or stored.
@@ -52,7 +51,7 @@ pub enum Action {
     /// A word of a row in the hand was stored.
     StorePrivate {
         place: u64,
-        part: Part,
+        which: Part,
         value: u64,
     },
     /// The head was exchanged: the row in the hand is the head, and the one before it is the next.
@@ -143,7 +142,7 @@ pub enum Action {
     /// of lanes or the cut of one.
     LoadHeader {
         group: u64,
-        part: HeaderWord,
+        which: HeaderWord,
         found: u64,
     },
     /// The next word of a group was loaded. The group that it names is reached by it.
@@ -167,7 +166,7 @@ pub enum Action {
     /// A header word of a group that is being filled was stored.
     StoreHeader {
         group: u64,
-        part: HeaderWord,
+        which: HeaderWord,
         value: u64,
     },
     /// The last header word, the pivot, of a new group was stored: the group answers for the keys
@@ -183,7 +182,7 @@ pub enum Action {
     StoreArray {
         group: u64,
         place: u64,
-        part: Part,
+        which: Part,
         value: u64,
     },
     /// The state word of a new array place was stored: it forwards to the key's place in its old
@@ -209,6 +208,7 @@ pub enum Action {
     },
     /// The group word of a slot in use was stored.
     StoreSlot {
+        part: u64,
         side: u64,
         slot: u64,
         group: u64,
@@ -235,43 +235,49 @@ pub enum Action {
     StoreMoved {
         place: u64,
     },
-    /// The root word was loaded. The side and the slots that it names are reached by it.
+    /// The root word of a part was loaded. The side and the slots that it names are reached by it.
     LoadRoot {
+        part: u64,
         found: u64,
     },
-    /// The pivot of a slot was loaded.
+    /// The pivot of a slot of a part's root was loaded.
     LoadSlotPivot {
+        part: u64,
         side: u64,
         slot: u64,
         found: u64,
     },
     /// The group word of a slot was loaded. The group that it names is reached by it.
     LoadSlotGroup {
+        part: u64,
         side: u64,
         slot: u64,
         found: u64,
     },
     /// The pivot of a slot of the unused side was stored.
     StoreUnusedPivot {
+        part: u64,
         side: u64,
         slot: u64,
         pivot: u64,
     },
     /// The group word of a slot of the unused side was stored.
     StoreUnusedGroup {
+        part: u64,
         side: u64,
         slot: u64,
         group: u64,
     },
-    /// The root word was stored: it names the other side.
+    /// The root word of a part was stored: it names the other side.
     StoreRoot {
+        part: u64,
         word: u64,
     },
 }
 
 /// One atomic step of one hand.
 pub struct Event {
-    /// The number of the hand: a caller's, or the number of callers for the keeper.
+    /// The number of the hand: callers come first, and behind them the keeper of each part.
     pub by: u64,
     pub action: Action,
 }

@@ -61,7 +61,7 @@ pub fn all_steps_represent()
     ensures { AllStepsRepresent }
 {}
 
-/// What the words hold is the state: epochs, free rows, keys, forms, slots, the root, and phases but
+/// What the words hold is the state: epochs, free rows, keys, forms, slots, the roots, and phases but
 /// those that nobody reads.
 pub fn words_stand_for_the_state()
     ensures { WordsStandForTheState }

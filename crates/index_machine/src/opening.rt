@@ -8,8 +8,8 @@ ghost use Rattle.word_layout.specs.Layout.{limits_of};
 use std::collections::LinkedList;
 use word_layout::Layout;
 
-/// The table as it is opened: no caller is inside, all record rows are free, and the array of
-/// group 0 has these rows.
+/// The table as it is opened: no caller is inside, all record rows are free, and the array of each part's
+/// first group has the part's rows.
 #[derive(Drop)]
 pub struct Opening {
     pub layout: Layout,

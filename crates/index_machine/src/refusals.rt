@@ -22,7 +22,7 @@ pub fn opening_waits_for_inserters()
     ensures { OpeningWaitsForInserters }
 {}
 
-/// A group is begun anew only while no rebuild is under way.
+/// A group is begun anew only while no rebuild is under way in its part.
 pub fn beginnings_wait_for_installs()
     ensures { BeginningsWaitForInstalls }
 {}

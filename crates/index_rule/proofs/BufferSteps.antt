@@ -2,7 +2,7 @@
 --
 -- The fact to remember: where the exchange of a link succeeds, the link leads there at that moment, so
 -- what its place says of the key holds then (LinksBeforeAKeyDecide).
-use Rattle.std.proofs.Common.{◌≡◌, ◌≢◌, ℕ, zero, suc, ◌<◌, ◌==◌, ◌⊎◌, inl, inr, ⊎_elim, Option, Some, None}
+use Rattle.std.proofs.Common.{false, ◌+◌, ◌≡◌, ◌≢◌, ℕ, zero, suc, ◌<◌, ◌==◌, ◌⊎◌, inl, inr, ⊎_elim, Option, Some, None}
 use Rattle.std.proofs.Common.{Bool, true, cond, [], ◌∷◌, ◌++◌, refl, sym, ap, ◌∙◌, subst, arith, eq-eqb, ne_eqb}
 use prog.Atomic.{either}
 use Rattle.std.proofs.Math.Logic.{∥∥₁_elim}
@@ -11,11 +11,13 @@ use Rattle.atomic_table.specs.Table.{Me, Allows}
 use Rattle.word_layout.specs.declared.headers.HeaderWord.{HeaderWord}
 use Rattle.word_layout.specs.declared.headers.HeaderWord.TheVariants as header
 use Rattle.word_layout.specs.Headers.{IsHeaderWord, header_words, most_lanes, number_of}
+use Rattle.word_layout.specs.declared.phase.Phase.{Phase}
+use Rattle.word_layout.specs.declared.phase.Phase.TheVariants.{Open, Frozen, Opened}
 use Rattle.word_layout.specs.declared.places.Part.TheVariants as part
 use Rattle.word_layout.specs.Places.{IsPlace, IsRow}
 use Rattle.word_layout.specs.Words.{Header, IsWord, PlaceWord, Word}
-use Rattle.word_layout.specs.declared.limits.Limits.{Limits}
 use Rattle.word_layout.proofs.RowPlaces.{row-nonzero}
+use Rattle.word_layout.specs.Shape.{Shape, group_total}
 use Rattle.index_machine.specs.declared.events.Action.{Action}
 use Rattle.index_machine.specs.declared.events.Action.TheVariants.{FailLink, Freeze, LinkRow}
 use Rattle.index_machine.specs.declared.events.Action.TheVariants.{LoadHead, LoadHeader, LoadLink, LoadPhase}
@@ -23,17 +25,21 @@ use Rattle.index_machine.specs.declared.events.Action.TheVariants.{NewGroup, Sto
 use Rattle.index_machine.specs.declared.events.Action.TheVariants.{StoreOpened, Thaw}
 use Rattle.index_machine.specs.declared.opening.Opening.{Opening}
 use Rattle.index_machine.specs.Execution.{Execution, Without, event}
+use Rattle.index_machine.specs.Groups.{phase}
 use Rattle.index_machine.specs.Lanes.{HasLane, begun_word, lanes}
-use Rattle.index_machine.specs.Words.{limits, link_behind, word}
-use Rattle.index_machine.specs.Sections.{IsCaller, IsKeeper, IsReading, StaysInside}
-use Rattle.index_machine.specs.Rows.{InBuffer, Role, role, role_key}
+use Rattle.index_machine.specs.Words.{shape, limits, link_behind, word}
+use Rattle.index_machine.specs.Sections.{IsCaller, IsReading, StaysInside}
+use Rattle.index_machine.specs.Keepers.{IsGroupKeeper, part_of}
+use Rattle.index_machine.specs.Rows.{InBuffer, Role, role}
 use Rattle.index_machine.specs.Reaching.{stands_in}
 use Rattle.index_machine.specs.RecordConditions.{IsLinkInto, MayFailLink, MayLink, MayLoadHead}
 use Rattle.index_machine.specs.RecordConditions.{MayLoadLink, MayWalk}
 use Rattle.index_machine.specs.RebuildConditions.{MayLoadHeader, MayLoadPhase}
-use Rattle.index_machine.specs.Represents.{has_stale_phase}
+use Rattle.index_machine.specs.Represents.{has_stale_phase, is_opened_to}
 use Rattle.index_machine.specs.Conditions.{Allowed, Valid}
+use Rattle.index_machine.proofs.Executions.{choice-other}
 use Rattle.index_machine.proofs.Holding.{held_words_on}
+use Rattle.index_machine.proofs.OfParts.{opened_in_part}
 use Rattle.index_machine.proofs.Placing.{buffer_row, holds_on}
 use Rattle.index_machine.proofs.RepresentingAll.{represented}
 use Rattle.machine_buffers.proofs.BegunLanes.{HasSameLanes, cuts_rise, has_same, lanes_while}
@@ -53,13 +59,13 @@ use Rattle.index_rule.specs.Buffers.{CanSeePhase, CanWalk, IsBehindKey, IsLaneHe
 use Rattle.index_rule.specs.Buffers.{MayInsertRow, TellsBegun, inserted_by, key_in}
 use Rattle.index_rule.specs.Hands.{IsHandOf, Makes, known, opening_of}
 use Rattle.index_rule.specs.Offsets.{offset_of_word}
-use Rattle.index_rule.specs.Rule.{Does, Kept, first_of, word_in, number}
+use Rattle.index_rule.specs.Rule.{Does, Kept, first_of, word_in}
 use Rattle.index_rule.specs.Steps.{group_of_role, head_load, header_load, lane_known, lane_of_role}
 use Rattle.index_rule.specs.Steps.{link_failed, link_group, link_known, link_lane}
 use Rattle.index_rule.specs.Steps.{buffer_known, link_made, link_place, phase_load, row_link_load}
 use Rattle.index_rule.proofs.Lanes.{lane_is, lanes_on, walkable_on}
 use Rattle.index_rule.proofs.Offsets.{IsHot}
-use Rattle.index_rule.proofs.Standing.{keyed_on, reading_on, stays_inside}
+use Rattle.index_rule.proofs.Standing.{kept_role, reading_on, stays_inside}
 use Rattle.index_rule.proofs.StepKinds.{Tells, by_name, exchanges, loads}
 use Rattle.index_rule.proofs.Stepping.{known_is, others_only, valid_after}
 
@@ -73,7 +79,7 @@ walk_on o c g n t valid out can = ⊎_elim
       stands_in_on c g n t (stays_inside c n out) z.1,
       walkable_while o c g z.0.caller n t valid (stays_inside c n out) z.1 z.2,
     ))
-    (λ (z : IsKeeper o c). inr z) can
+    (λ (z : IsGroupKeeper o c g). inr z) can
 
 row_of_on : (o : Opening) (c g p : ℕ) (n t : Execution) → Valid o (n ++ t) → Without c n →
     CanWalk o c g t → IsRowOf o g p t → IsRowOf o g p (n ++ t)
@@ -83,13 +89,13 @@ row_of_on o c g p n t valid out can row = ⊎_elim
       place_on o c g z.0.caller p row.0 n t valid (stays_inside c n out) z.1 (inr row.1)
           ∙ row.1,
     ))
-    (λ (z : IsKeeper o c).
-    (row.0, keyed_on o c p n t z valid out (row.0, ap role_key row.1) ∙ row.1)) can
+    (λ (z : IsGroupKeeper o c g).
+    (row.0, kept_role o c p n t valid out (g, row.0, inr row.1, z) ∙ row.1)) can
 
 may_walk : (o : Opening) (c g : ℕ) (t : Execution) → CanWalk o c g t → MayWalk o c g t
 may_walk o c g t can = ⊎_elim
     (λ (z : IsReading o c t × (stands_in c g t ≡ true) × IsWalkable o g t). inl (z.0, z.1))
-    (λ (z : IsKeeper o c). inr z) can
+    (λ (z : IsGroupKeeper o c g). inr z) can
 
 -- what a caller finds leads into the lane
 leads_into : (o : Opening) (c g lane before : ℕ) (t : Execution) → Valid o t → CanWalk o c g t →
@@ -98,7 +104,7 @@ leads_into : (o : Opening) (c g lane before : ℕ) (t : Execution) → Valid o t
 leads_into o c g lane before t valid can caller is_lane into = ⊎_elim
     (λ (z : IsReading o c t × (stands_in c g t ≡ true) × IsWalkable o g t).
     into_buffer o t valid g lane before z.2 is_lane into)
-    (λ (z : IsKeeper o c). absurd (omega (arith, caller, z))) can
+    (λ (z : IsGroupKeeper o c g). absurd (omega (arith, caller, z))) can
 
 -- the word of the link behind a place that is not 0
 link_is : (g lane p : ℕ) → p ≢ 0 → link_behind g lane p ≡ PlaceWord p part.Link
@@ -106,7 +112,7 @@ link_is g lane zero some = absurd (some refl)
 link_is g lane (suc n) some = refl
 
 row_some : (o : Opening) (t : Execution) (g p : ℕ) → Valid o t → IsRowOf o g p t → p ≢ 0
-row_some o t g p valid row = row-nonzero (limits o) p (buffer_row o t valid p g row.0 row.1)
+row_some o t g p valid row = row-nonzero (shape o) p (buffer_row o t valid p g row.0 row.1)
 
 may_load_head : (o : Opening) (c g lane : ℕ) (t : Execution) → Valid o t → CanWalk o c g t →
     lane < lanes o g t → MayLoadHead o c g lane (word o t (Header g (header.Head lane))) t
@@ -144,24 +150,53 @@ may_load_link o c g p t valid can row = record {
 
 -- ---- phases ----
 
--- the phase word goes on to say the phase as long as the keeper makes no step
-phase_kept_step : (o : Opening) (t : Execution) (b : ℕ) (d : Action) (c g : ℕ) → IsKeeper o c →
-    Allowed o t b d → b ≢ c → has_stale_phase g (event b d ∷ t) ≡ has_stale_phase g t
-phase_kept_step o t b (Freeze h) c g keeper may other = absurd (other (may.keeper ∙ sym keeper))
-phase_kept_step o t b (Thaw h) c g keeper may other = absurd (other (may.keeper ∙ sym keeper))
-phase_kept_step o t b (StoreOpened h f) c g keeper may other =
-    absurd (other (may.keeper ∙ sym keeper))
-phase_kept_step o t b (StoreHeader h which value) c g keeper may other =
-    absurd (other (may.keeper ∙ sym keeper))
-phase_kept_step o t b (NewGroup h low high f) c g keeper may other =
-    absurd (other (may.keeper ∙ sym keeper))
-phase_kept_step o t b d c g keeper may other = refl
+-- another hand than the keeper of the group's part keeps no group of the part
+apart_from : (o : Opening) (c b g h : ℕ) → IsGroupKeeper o c g → IsGroupKeeper o b h → b ≢ c →
+    part_of o h ≢ part_of o g
+apart_from o c b g h keeper other differ same =
+    differ (other ∙ (ap (λ (part : ℕ). (limits o).callers + part) same ∙ sym keeper))
 
-phase_kept : (o : Opening) (c g : ℕ) (n t : Execution) → IsKeeper o c → Valid o (n ++ t) →
+other_group : (o : Opening) (c b g h : ℕ) → IsGroupKeeper o c g → IsGroupKeeper o b h → b ≢ c →
+    h ≢ g
+other_group o c b g h keeper other differ same =
+    apart_from o c b g h keeper other differ (ap (part_of o) same)
+
+-- nor opened the group to a rebuild of its own
+not_opened_to : (o : Opening) (t : Execution) (c b g h : ℕ) → Valid o t → IsGroupKeeper o c g →
+    IsGroupKeeper o b h → b ≢ c → is_opened_to h (phase g t) ≡ false
+not_opened_to o t c b g h valid keeper other differ = go (phase g t) refl
+  where
+    go : (x : Phase) → phase g t ≡ x → is_opened_to h x ≡ false
+    go Open e = refl
+    go Frozen e = refl
+    go (Opened f) e = ne_eqb f h
+        (λ same. apart_from o c b g h keeper other differ
+        (ap (part_of o) (sym same) ∙ opened_in_part o t valid g f e))
+
+-- the phase word goes on to say the phase as long as the keeper of the part makes no step
+phase_kept_step : (o : Opening) (t : Execution) (b : ℕ) (d : Action) (c g : ℕ) → Valid o t →
+    IsGroupKeeper o c g → Allowed o t b d → b ≢ c →
+    has_stale_phase g (event b d ∷ t) ≡ has_stale_phase g t
+phase_kept_step o t b (Freeze h) c g valid keeper may other =
+    choice-other h g false (has_stale_phase g t) (other_group o c b g h keeper may.keeper other)
+phase_kept_step o t b (Thaw h) c g valid keeper may other =
+    choice-other h g false (has_stale_phase g t) (other_group o c b g h keeper may.keeper other)
+phase_kept_step o t b (StoreOpened h f) c g valid keeper may other =
+    choice-other h g false (has_stale_phase g t) (other_group o c b g h keeper may.keeper other)
+phase_kept_step o t b (StoreHeader h header.Phase value) c g valid keeper may other =
+    choice-other h g true (has_stale_phase g t) (other_group o c b g h keeper may.keeper other)
+phase_kept_step o t b (NewGroup h low high f) c g valid keeper may other =
+    choice-other h g false (cond (is_opened_to h (phase g t)) true (has_stale_phase g t))
+    (other_group o c b g h keeper may.keeper other)
+    ∙ ap (λ (z : Bool). cond z true (has_stale_phase g t))
+    (not_opened_to o t c b g h valid keeper may.keeper other)
+phase_kept_step o t b d c g valid keeper may other = refl
+
+phase_kept : (o : Opening) (c g : ℕ) (n t : Execution) → IsGroupKeeper o c g → Valid o (n ++ t) →
     Without c n → has_stale_phase g (n ++ t) ≡ has_stale_phase g t
 phase_kept o c g [] t keeper valid out = refl
 phase_kept o c g (e ∷ n) t keeper valid out =
-    phase_kept_step o (n ++ t) e.by e.action c g keeper valid.0 out.0
+    phase_kept_step o (n ++ t) e.by e.action c g valid.1 keeper valid.0 out.0
     ∙ phase_kept o c g n t keeper valid.1 out.1
 
 sees_phase_on : (o : Opening) (c g : ℕ) (n t : Execution) → Valid o (n ++ t) → Without c n →
@@ -174,7 +209,7 @@ sees_phase_on o c g n t valid out can = ⊎_elim
       );
       true_word = true_while o c g z.0.caller n t valid (stays_inside c n out) z.1 can.true_word;
     })
-    (λ (z : IsKeeper o c). record {
+    (λ (z : IsGroupKeeper o c g). record {
       allowed = inr z;
       true_word = phase_kept o c g n t z valid out ∙ can.true_word;
     })
@@ -279,22 +314,22 @@ may_fail_link o c g lane p before next n t valid out may ne = record {
 
 -- a row of a buffer that the hand knows
 pub row_by_hand : (b : Board) (h : Hand) (g p : ℕ) → IsHandOf b h →
-    IsRowOf (opening_of b) g p (known h) → IsRow (limits (opening_of b)) p
+    IsRowOf (opening_of b) g p (known h) → IsRow (shape (opening_of b)) p
 row_by_hand b h g p of row =
     ∥∥₁_elim (h.following (opening_of b) of.opened) (hlevel props)
     (λ follows. buffer_row (opening_of b) (known h) follows.valid p g row.0 row.1)
 
 -- the link behind a place is a word of the table
-pub link_word_of : (l : Limits) (g lane before : ℕ) → g < l.groups → lane < most_lanes →
-    (before ≡ 0) ⊎ IsRow l before → IsWord l (link_behind g lane before)
-link_word_of l g lane zero low few row = (low, few)
-link_word_of l g lane (suc n) low few row = ⊎_elim (λ (z : suc n ≡ 0). absurd (omega (arith, z)))
-    (λ (z : IsRow l (suc n)). inl z) row
+pub link_word_of : (s : Shape) (g lane before : ℕ) → g < group_total s → lane < most_lanes →
+    (before ≡ 0) ⊎ IsRow s before → IsWord s (link_behind g lane before)
+link_word_of s g lane zero low few row = (low, few)
+link_word_of s g lane (suc n) low few row = ⊎_elim (λ (z : suc n ≡ 0). absurd (omega (arith, z)))
+    (λ (z : IsRow s (suc n)). inl z) row
 
 -- the place behind which a hand links is none, or a row
 pub behind_by_hand : (b : Board) (h : Hand) (g lane p before next : ℕ) → IsHandOf b h →
     MayInsertRow (opening_of b) h.number g lane p before next (known h) →
-    (before ≡ 0) ⊎ IsRow (limits (opening_of b)) before
+    (before ≡ 0) ⊎ IsRow (shape (opening_of b)) before
 behind_by_hand b h g lane p before next of may = ⊎_elim (λ (z : before ≡ 0). inl z)
     (λ (z : IsRowOf (opening_of b) g before (known h)). inr (row_by_hand b h g before of z))
     (known_behind (opening_of b) g lane before (known h)
@@ -405,8 +440,8 @@ link_not_hot g lane (suc p) hot = hot
 module _ (o : Opening) (slots id : ℕ) (me : Me (Unit {0}) View) (c : ℕ)
     (is : me.0.numbers ≡ c ∷ []) (live : me.0.opening ≡ Some o) where
   pub loads_head : (g lane a : ℕ) → CanWalk o c g me.0.known → lane < lanes o g me.0.known →
-      IsWord (limits o) (Header g (header.Head lane)) →
-      a ≡ offset_of_word (limits o) (Header g (header.Head lane)) →
+      IsWord (shape o) (Header g (header.Head lane)) →
+      a ≡ offset_of_word (shape o) (Header g (header.Head lane)) →
       Allows (Kept o) slots id me a (λ n. n) (λ n x. Does me (head_load (word_in me.0 a) n) x)
   loads_head g lane a can is_lane there at =
       by_name o slots id me c is live (Header g (header.Head lane)) a (λ n. n) head_load there at
@@ -421,7 +456,7 @@ module _ (o : Opening) (slots id : ℕ) (me : Me (Unit {0}) View) (c : ℕ)
       is_lane))))
 
   pub loads_header : (g : ℕ) (which : HeaderWord) (a : ℕ) → CanWalk o c g me.0.known →
-      IsWord (limits o) (Header g which) → a ≡ offset_of_word (limits o) (Header g which) →
+      IsWord (shape o) (Header g which) → a ≡ offset_of_word (shape o) (Header g which) →
       Allows (Kept o) slots id me a (λ n. n) (λ n x. Does me (header_load (word_in me.0 a) n) x)
   loads_header g which a can there at =
       by_name o slots id me c is live (Header g which) a (λ n. n) header_load there at
@@ -431,7 +466,7 @@ module _ (o : Opening) (slots id : ℕ) (me : Me (Unit {0}) View) (c : ℕ)
       (walk_on o c g newer me.0.known (subst (Valid o) (sym e) valid) out can))))
 
   pub loads_row_link : (g p a : ℕ) → CanWalk o c g me.0.known → IsRowOf o g p me.0.known →
-      IsPlace (limits o) p → a ≡ offset_of_word (limits o) (PlaceWord p part.Link) →
+      IsPlace (shape o) p → a ≡ offset_of_word (shape o) (PlaceWord p part.Link) →
       Allows (Kept o) slots id me a (λ n. n)
       (λ n x. Does me (row_link_load me.0 (word_in me.0 a) n) x)
   loads_row_link g p a can row there at =
@@ -447,8 +482,8 @@ module _ (o : Opening) (slots id : ℕ) (me : Me (Unit {0}) View) (c : ℕ)
       (subst (CanWalk o c g) e (walk_on o c g newer me.0.known before out can))
       (subst (IsRowOf o g p) e (row_of_on o c g p newer me.0.known before out can row)))))
 
-  pub loads_phase : (g a : ℕ) → CanSeePhase o c g me.0.known → g < (limits o).groups →
-      a ≡ offset_of_word (limits o) (Header g header.Phase) →
+  pub loads_phase : (g a : ℕ) → CanSeePhase o c g me.0.known → g < group_total (shape o) →
+      a ≡ offset_of_word (shape o) (Header g header.Phase) →
       Allows (Kept o) slots id me a (λ n. n) (λ n x. Does me (phase_load (word_in me.0 a) n) x)
   loads_phase g a can low at =
       by_name o slots id me c is live (Header g header.Phase) a (λ n. n) phase_load (low, tt) at
@@ -458,8 +493,8 @@ module _ (o : Opening) (slots id : ℕ) (me : Me (Unit {0}) View) (c : ℕ)
       (sees_phase_on o c g newer me.0.known (subst (Valid o) (sym e) valid) out can))))
 
   pub links_row : (g lane p before next a : ℕ) → MayInsertRow o c g lane p before next me.0.known →
-      AreRisingLanes o g me.0.known → IsWord (limits o) (link_behind g lane before) →
-      a ≡ offset_of_word (limits o) (link_behind g lane before) →
+      AreRisingLanes o g me.0.known → IsWord (shape o) (link_behind g lane before) →
+      a ≡ offset_of_word (shape o) (link_behind g lane before) →
       Allows (Kept o) slots id me a (λ n. either (n == next) p n)
       (λ n x. Does me (cond (n == next) (link_made me.0 (word_in me.0 a) next p)
       (link_failed me.0 (word_in me.0 a) next n)) x)

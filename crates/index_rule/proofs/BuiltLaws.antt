@@ -236,20 +236,21 @@ one_place_each o t valid built k p q g h = (
 
 -- ---- the root ----
 
-root_step : (d : Action) (w : ℕ) → IsBuilt d → root_after d w ≡ w
-root_step (StoreRoot word) w built = absurd built
-root_step d w built = refl
+root_step : (part : ℕ) (d : Action) (w : ℕ) → IsBuilt d → root_after part d w ≡ w
+root_step part (StoreRoot p word) w built = absurd built
+root_step part d w built = refl
 
-slot_step : (side i group : ℕ) (d : Action) → IsBuilt d → slot_after side i d group ≡ group
-slot_step side i group (StoreSlot s j g) built = absurd built
-slot_step side i group (StoreUnusedGroup s j g) built = absurd built
-slot_step side i group (Install spot lead low high) built = absurd built
-slot_step side i group d built = refl
+slot_step : (part side i group : ℕ) (d : Action) → IsBuilt d →
+    slot_after part side i d group ≡ group
+slot_step part side i group (StoreSlot p s j g) built = absurd built
+slot_step part side i group (StoreUnusedGroup p s j g) built = absurd built
+slot_step part side i group (Install spot lead low high) built = absurd built
+slot_step part side i group d built = refl
 
 pub root_as_opened : RootIsAsOpened
-root_as_opened o [] built = (refl, λ side i. refl)
-root_as_opened o (e ∷ t) built =
-    let before = root_as_opened o t built.1 in (
-      root_step e.action (root o t) built.0 ∙ before.0,
-      λ side i. slot_step side i (slot o side i t) e.action built.0 ∙ before.1 side i,
+root_as_opened o [] built part = (refl, λ side i. refl)
+root_as_opened o (e ∷ t) built part =
+    let before = root_as_opened o t built.1 part in (
+      root_step part e.action (root o part t) built.0 ∙ before.0,
+      λ side i. slot_step part side i (slot o part side i t) e.action built.0 ∙ before.1 side i,
     )

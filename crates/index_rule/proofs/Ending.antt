@@ -5,7 +5,7 @@ use Rattle.std.proofs.Common.{length, slice_index, refl, sym, ap, ◌∙◌, sub
 use mathlib.Core.Option.{some, some-injective, some-ne-none}
 use lib.ListN.{get_elem?}
 use Rattle.word_layout.specs.Limits.{word_count}
-use Rattle.index_machine.specs.Words.{limits}
+use Rattle.index_machine.specs.Words.{shape}
 use Rattle.atomic_table.specs.Table.{Final, Seen}
 use Rattle.index_machine.specs.declared.opening.Opening.{Opening}
 use Rattle.index_machine.specs.Execution.{Execution, ContinuesWithout}
@@ -147,12 +147,12 @@ got (a ∷ l) (suc i) x e = got l i x e
 
 -- the words that were gathered by their addresses are those that are left
 pub leaves_gathered : (o : Opening) (hs : List Hand) (words memory : List ℕ) →
-    length words ≡ word_count (limits o) →
-    ((a : ℕ) → a < word_count (limits o) →
-    slice_index memory (offset_of (limits o) a) ≡ slice_index words a) →
+    length words ≡ word_count (shape o) →
+    ((a : ℕ) → a < word_count (shape o) →
+    slice_index memory (offset_of (shape o) a) ≡ slice_index words a) →
     LeavesInMemory o hs memory → Leaves o hs words
 leaves_gathered o hs words memory wide each left =
-    let spread : Spreads (limits o) words memory = record { wide = left.held.wide; each = each } in
+    let spread : Spreads (shape o) words memory = record { wide = left.held.wide; each = each } in
     record {
       execution = left.execution;
       valid = left.valid;

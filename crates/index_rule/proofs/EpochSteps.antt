@@ -6,7 +6,7 @@ use Rattle.word_layout.specs.Words.{Epoch}
 use Rattle.index_machine.specs.declared.events.Action.TheVariants.{LoadEpoch, Enter, Leave}
 use Rattle.index_machine.specs.declared.opening.Opening.{Opening}
 use Rattle.index_machine.specs.Execution.{Execution, Without}
-use Rattle.index_machine.specs.Words.{limits}
+use Rattle.index_machine.specs.Words.{shape}
 use Rattle.index_machine.specs.Sections.{IsCaller, crossings}
 use Rattle.index_machine.specs.Conditions.{MayEnter, MayLeave, next_epoch}
 use Rattle.index_machine.specs.RecordConditions.{HoldsNoLock}
@@ -25,7 +25,7 @@ next_is epoch count e = omega arith
 
 module _ (o : Opening) (slots id : ℕ) (me : Me (Unit {0}) View) (c : ℕ)
     (is : me.0.numbers ≡ c ∷ []) (live : me.0.opening ≡ Some o) where
-  pub loads_epoch : (k a : ℕ) → IsCaller o k → a ≡ offset_of_word (limits o) (Epoch k) →
+  pub loads_epoch : (k a : ℕ) → IsCaller o k → a ≡ offset_of_word (shape o) (Epoch k) →
       Allows (Kept o) slots id me a (λ n. n) (λ n x. Does me (epoch_load (word_in me.0 a) n) x)
   loads_epoch k a caller at =
       by_name o slots id me c is live (Epoch k) a (λ n. n) epoch_load caller at
@@ -38,7 +38,7 @@ module _ (o : Opening) (slots id : ℕ) (me : Me (Unit {0}) View) (c : ℕ)
   same_crossings t newer e out = ap (crossings c) (sym e) ∙ crossings_on c newer me.0.known out
 
   pub stores_enter : (a n : ℕ) → MayEnter o c me.0.known → n ≡ next_epoch c me.0.known →
-      a ≡ offset_of_word (limits o) (Epoch c) →
+      a ≡ offset_of_word (shape o) (Epoch c) →
       Allows (Kept o) slots id me a (λ _. n) (λ _ x. Does me (Enter n) x)
   stores_enter a n may next at =
       subst (λ (z : ℕ). Allows (Kept o) slots id me z (λ _. n) (λ _ x. Does me (Enter n) x))
@@ -53,7 +53,7 @@ module _ (o : Opening) (slots id : ℕ) (me : Me (Unit {0}) View) (c : ℕ)
       )))
 
   pub stores_leave : (a n : ℕ) → MayLeave o c me.0.known → n ≡ next_epoch c me.0.known →
-      a ≡ offset_of_word (limits o) (Epoch c) →
+      a ≡ offset_of_word (shape o) (Epoch c) →
       Allows (Kept o) slots id me a (λ _. n) (λ _ x. Does me (Leave n) x)
   stores_leave a n may next at =
       subst (λ (z : ℕ). Allows (Kept o) slots id me z (λ _. n) (λ _ x. Does me (Leave n) x))

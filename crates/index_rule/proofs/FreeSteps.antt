@@ -16,8 +16,9 @@ use Rattle.index_machine.specs.declared.events.Action.TheVariants.{FailPop, Stor
 use Rattle.index_machine.specs.declared.events.Action.TheVariants.{FailPush}
 use Rattle.index_machine.specs.declared.opening.Opening.{Opening}
 use Rattle.index_machine.specs.Execution.{Execution, Without, event}
-use Rattle.index_machine.specs.Words.{limits, word}
-use Rattle.index_machine.specs.Sections.{IsCaller, IsKeeper, crossings}
+use Rattle.index_machine.specs.Words.{shape, word}
+use Rattle.index_machine.specs.Sections.{IsCaller, crossings}
+use Rattle.index_machine.specs.Keepers.{IsKeeper}
 use Rattle.index_machine.specs.Rows.{Holds, HoldsNone, role}
 use Rattle.index_machine.specs.ObservedHeads.{HeadAndLink, IsObservedRow, IsUnobserved, Observes}
 use Rattle.index_machine.specs.ObservedHeads.{observed_head}
@@ -41,7 +42,7 @@ use Rattle.index_rule.proofs.StepKinds.{loads, stores, exchanges, by_name}
 
 -- a row that the hand holds is a row
 pub held_row : (b : Board) (h : Hand) (place : ℕ) → IsHandOf b h →
-    Holds (opening_of b) h.number place (known h) → IsRow (limits (opening_of b)) place
+    Holds (opening_of b) h.number place (known h) → IsRow (shape (opening_of b)) place
 held_row b h place of held =
     ∥∥₁_elim (h.following (opening_of b) of.opened) (hlevel props)
     (λ (follows : Follows (opening_of b) (view h)).
@@ -50,7 +51,7 @@ held_row b h place of held =
 -- and so is one that it observes
 pub observed_row : (b : Board) (h : Hand) (place : ℕ) → IsHandOf b h →
     IsCaller (opening_of b) h.number → Observes h.number place (known h) →
-    IsRow (limits (opening_of b)) place
+    IsRow (shape (opening_of b)) place
 observed_row b h place of caller observed =
     ∥∥₁_elim (h.following (opening_of b) of.opened) (hlevel props)
     (λ (follows : Follows (opening_of b) (view h)).
@@ -77,7 +78,7 @@ module _ (o : Opening) (slots id : ℕ) (me : Me (Unit {0}) View) (c : ℕ)
 
   -- ---- the head and its link ----
 
-  pub loads_free : (a : ℕ) → MayLoadFree o c me.0.known → a ≡ offset_of_word (limits o) FreeHead →
+  pub loads_free : (a : ℕ) → MayLoadFree o c me.0.known → a ≡ offset_of_word (shape o) FreeHead →
       Allows (Kept o) slots id me a (λ n. n) (λ n x. Does me (LoadFree n) x)
   loads_free a may at =
       subst (λ (z : ℕ). Allows (Kept o) slots id me z (λ n. n) (λ n x. Does me (LoadFree n) x))
@@ -90,7 +91,7 @@ module _ (o : Opening) (slots id : ℕ) (me : Me (Unit {0}) View) (c : ℕ)
       )))
 
   pub loads_link : (place a : ℕ) → IsReading o c me.0.known → Observes c place me.0.known →
-      IsRow (limits o) place → a ≡ offset_of_word (limits o) (PlaceWord place Link) →
+      IsRow (shape o) place → a ≡ offset_of_word (shape o) (PlaceWord place Link) →
       Allows (Kept o) slots id me a (λ n. n) (λ n x. Does me (link_load (word_in me.0 a) n) x)
   loads_link place a reading seen row at =
       by_name o slots id me c is live (PlaceWord place Link) a (λ n. n) link_load (inl row) at
@@ -103,7 +104,7 @@ module _ (o : Opening) (slots id : ℕ) (me : Me (Unit {0}) View) (c : ℕ)
       )))
 
   pub pops : (a p n : ℕ) → IsReading o c me.0.known → observed_head c me.0.known ≡ HeadAndLink p n →
-      HoldsNone o c me.0.known → a ≡ offset_of_word (limits o) FreeHead →
+      HoldsNone o c me.0.known → a ≡ offset_of_word (shape o) FreeHead →
       Allows (Kept o) slots id me a (λ m. either (m == p) n m)
       (λ m x. Does me (cond (m == p) (PopFree p n) (FailPop p m)) x)
   pops a p n reading seen none at =
@@ -121,7 +122,7 @@ module _ (o : Opening) (slots id : ℕ) (me : Me (Unit {0}) View) (c : ℕ)
         (λ hit.
             let row = heads.row c p reading.caller observes in
             let full : word o t FreeHead ≢ 0 =
-            λ z. row-nonzero (limits o) p row (sym hit ∙ z)
+            λ z. row-nonzero (shape o) p row (sym hit ∙ z)
             in
             let first = top o t valid full in
             let free = top_free o t valid full in (
@@ -147,8 +148,8 @@ module _ (o : Opening) (slots id : ℕ) (me : Me (Unit {0}) View) (c : ℕ)
   -- ---- one's own rows ----
 
   pub stores_private : (place : ℕ) (part : Part) (value a : ℕ) → Holds o c place me.0.known →
-      FitsPart (limits o) part value → IsRow (limits o) place →
-      a ≡ offset_of_word (limits o) (PlaceWord place part) →
+      FitsPart (shape o) part value → IsRow (shape o) place →
+      a ≡ offset_of_word (shape o) (PlaceWord place part) →
       Allows (Kept o) slots id me a (λ _. value)
       (λ _ x. Does me (private_store (word_in me.0 a) value) x)
   stores_private place part value a held fits row at =
@@ -164,7 +165,7 @@ module _ (o : Opening) (slots id : ℕ) (me : Me (Unit {0}) View) (c : ℕ)
 
   pub pushes : (a p n : ℕ) → IsKeeper o c → Holds o c p me.0.known →
       word o me.0.known (PlaceWord p Link) ≡ n → IsUnobserved o p me.0.known →
-      a ≡ offset_of_word (limits o) FreeHead →
+      a ≡ offset_of_word (shape o) FreeHead →
       Allows (Kept o) slots id me a (λ m. either (m == n) p m)
       (λ m x. Does me (cond (m == n) (PushFree p n) (FailPush p n m)) x)
   pushes a p n keeper held link unseen at =
@@ -190,7 +191,7 @@ module _ (o : Opening) (slots id : ℕ) (me : Me (Unit {0}) View) (c : ℕ)
           link = linked;
           unobserved = subst (IsUnobserved o p) e
               (unobserved_on o p newer me.0.known before
-              (others_push_none o p c newer me.0.known keeper before out)
+              (others_push_none o p c newer me.0.known before out held)
               (λ z. unused-held (sym z ∙ held)) unseen);
         }),
         (λ ne. record {
@@ -204,11 +205,11 @@ module _ (o : Opening) (slots id : ℕ) (me : Me (Unit {0}) View) (c : ℕ)
 
 -- the head that was loaded, where it is not 0
 pub loaded_row : (o : Opening) (v : View) (n : ℕ) (w : View) → v.opening ≡ Some o →
-    Acts v (LoadFree n) w → n ≢ 0 → IsRow (limits o) n
+    Acts v (LoadFree n) w → n ≢ 0 → IsRow (shape o) n
 loaded_row o v n w of acted some =
     let valid : Valid o (event (number v) (LoadFree n) ∷ acted.0 ++ v.known) =
     subst (Valid o) (ap (λ (z : View). z.known) acted.1) (acted.3 o of).valid
     in
     let found : word o (acted.0 ++ v.known) FreeHead ≡ n = valid.0.1 in
-    subst (IsRow (limits o)) found
+    subst (IsRow (shape o)) found
     (top_free o (acted.0 ++ v.known) valid.1 (λ z. some (sym found ∙ z))).1

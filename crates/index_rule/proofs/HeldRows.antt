@@ -4,7 +4,7 @@ use Rattle.std.proofs.Common.{◌≡◌, ◌≢◌, ℕ, ◌-◌, ◌<◌, ◌^�
 use Rattle.std.proofs.Common.{length, zero, suc, ◌+◌, refl, ap, ◌∙◌, subst, ne_eqb, arith}
 use Rattle.std.specs.Prelude.{◌==◌, ◌&&◌}
 use Rattle.word_layout.specs.declared.places.Part.{Part}
-use Rattle.word_layout.specs.declared.limits.Limits.{Limits}
+use Rattle.word_layout.specs.Shape.{Shape}
 use Rattle.word_layout.specs.Places.{part_address, part_at, part_of, part_offset, rows_from}
 use Rattle.word_layout.specs.Places.{same_part}
 use Rattle.word_layout.specs.Words.{PlaceWord}
@@ -75,6 +75,6 @@ stores_part b h k held place address part found value same at equal m =
 -- ---- all rows ----
 
 -- the list of so many rows has that length
-pub rows-length : (l : Limits) (i n : ℕ) → length (rows_from l i n) ≡ n
-rows-length l i zero = refl
-rows-length l i (suc n) = let rest = rows-length l (i + 1) n in omega arith
+pub rows-length : (s : Shape) (i n : ℕ) → length (rows_from s i n) ≡ n
+rows-length s i zero = refl
+rows-length s i (suc n) = let rest = rows-length s (i + 1) n in omega arith

@@ -1,6 +1,6 @@
 -- The lanes of a buffer as a hand knows them: they stay whatever others do, and a key's lane is known by
 -- its cut.
-use Rattle.std.proofs.Common.{◌≡◌, ◌≢◌, ℕ, zero, suc, ◌+◌, ◌-◌, ◌<◌, ◌≤◌, ⊎_elim, cond, [], ◌∷◌}
+use Rattle.std.proofs.Common.{inr, ◌≡◌, ◌≢◌, ℕ, zero, suc, ◌+◌, ◌-◌, ◌<◌, ◌≤◌, ⊎_elim, cond, [], ◌∷◌}
 use Rattle.std.proofs.Common.{Bool, true, ◌++◌, sym, ap, ◌∙◌, subst, arith, lt-ltb, le-ltb}
 use mathlib.Core.Logic.{dite}
 use native.Mathlib.Decide.{ℕ_discrete}
@@ -12,7 +12,8 @@ use Rattle.index_machine.specs.Execution.{Execution, Without}
 use Rattle.index_machine.specs.Lanes.{HasLane, cut, lanes}
 use Rattle.index_machine.specs.Reaching.{stands_in}
 use Rattle.index_machine.specs.Rows.{InBuffer, role}
-use Rattle.index_machine.specs.Sections.{IsKeeper, IsReading}
+use Rattle.index_machine.specs.Sections.{IsReading}
+use Rattle.index_machine.specs.Keepers.{IsGroupKeeper}
 use Rattle.machine_barriers.proofs.Reaches.{may_as}
 use Rattle.machine_buffers.proofs.BegunLanes.{HasSameLanes, lanes_while, until_begun}
 use Rattle.machine_buffers.proofs.Walks.{walkable_until, walkable_while}
@@ -21,13 +22,13 @@ use Rattle.machine_buffers.specs.Walks.{AreRisingLanes, BeginsNever, IsLaneWord,
 use Rattle.machine_buffers.specs.Walks.{IsWalkable, TakesApart}
 use Rattle.index_rule.specs.Buffers.{CanWalk}
 use Rattle.index_rule.specs.Steps.{lane_among, lane_of_key}
-use Rattle.index_rule.proofs.Standing.{stays_inside}
+use Rattle.index_rule.proofs.Standing.{same_keeper, stays_inside}
 
 -- ---- what others leave ----
 
--- only a keeper begins a group
-pub begins_never : (o : Opening) (c g : ℕ) (n t : Execution) → IsKeeper o c → Valid o (n ++ t) →
-    Without c n → BeginsNever g n
+-- only the keeper of its part begins a group
+pub begins_never : (o : Opening) (c g : ℕ) (n t : Execution) → IsGroupKeeper o c g →
+    Valid o (n ++ t) → Without c n → BeginsNever g n
 begins_never o c g [] t keeper valid out = tt
 begins_never o c g (e ∷ n) t keeper valid out = (
   λ (z : Begins g e.action).
@@ -37,7 +38,7 @@ begins_never o c g (e ∷ n) t keeper valid out = (
 )
 
 -- nor takes anybody else a buffer apart
-left_whole : (o : Opening) (c g : ℕ) (n t : Execution) → IsKeeper o c → Valid o (n ++ t) →
+left_whole : (o : Opening) (c g : ℕ) (n t : Execution) → IsGroupKeeper o c g → Valid o (n ++ t) →
     Without c n → IsLeftWhole o g n t
 left_whole o c g [] t keeper valid out = tt
 left_whole o c g (e ∷ n) t keeper valid out = (
@@ -45,7 +46,7 @@ left_whole o c g (e ∷ n) t keeper valid out = (
       (λ (z : (k : ℕ) × (p : ℕ) × (next : ℕ) × (e.action ≡ Retire p next)
       × (role o p (n ++ t) ≡ InBuffer g k)).
       let may = may_as o (n ++ t) e.by e.action (Retire z.1 z.2) z.3 valid.0 in
-      out.0 (may.keeper ∙ sym keeper))
+      out.0 (same_keeper o c e.by g z.0 z.1 (n ++ t) keeper (inr z.4) may.keeper))
       (λ (z : (which : HeaderWord) × (value : ℕ) × (e.action ≡ StoreHeader g which value)
       × IsLaneWord which).
       let may = may_as o (n ++ t) e.by e.action (StoreHeader g z.0 z.1) z.2 valid.0 in
@@ -59,7 +60,7 @@ pub lanes_on : (o : Opening) (c g : ℕ) (n t : Execution) → Valid o (n ++ t) 
 lanes_on o c g n t valid out can which = ⊎_elim
     (λ (z : IsReading o c t × (stands_in c g t ≡ true) × IsWalkable o g t).
     lanes_while o c g which z.0.caller n t valid (stays_inside c n out) z.1)
-    (λ (z : IsKeeper o c). until_begun o g which n t (begins_never o c g n t z valid out)) can
+    (λ (z : IsGroupKeeper o c g). until_begun o g which n t (begins_never o c g n t z valid out)) can
 
 -- and a walkable buffer stays so
 pub walkable_on : (o : Opening) (c g : ℕ) (n t : Execution) → Valid o (n ++ t) → Without c n →
@@ -67,7 +68,7 @@ pub walkable_on : (o : Opening) (c g : ℕ) (n t : Execution) → Valid o (n ++ 
 walkable_on o c g n t valid out can w = ⊎_elim
     (λ (z : IsReading o c t × (stands_in c g t ≡ true) × IsWalkable o g t).
     walkable_while o c g z.0.caller n t valid (stays_inside c n out) z.1 w)
-    (λ (z : IsKeeper o c). walkable_until o g n t valid (left_whole o c g n t z valid out) w) can
+    (λ (z : IsGroupKeeper o c g). walkable_until o g n t valid (left_whole o c g n t z valid out) w) can
 
 -- ---- the lane of a key ----
 

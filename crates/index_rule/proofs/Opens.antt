@@ -10,7 +10,8 @@ use Rattle.std.proofs.lemmas.Grind.{merely}
 use Rattle.atomic_table.specs.Table.{opening}
 use Rattle.index_machine.specs.declared.opening.Opening.{Opening}
 use Rattle.index_machine.specs.Lists.{In, AreDistinct}
-use Rattle.index_machine.specs.Words.{limits}
+use Rattle.word_layout.specs.Shape.{parts_in}
+use Rattle.index_machine.specs.Words.{limits, shape}
 use Rattle.index_machine.specs.Sections.{crossings}
 use Rattle.index_machine.proofs.Holders.{holds_no_lock_first}
 use Rattle.index_rule.specs.declared.view.View.{View}
@@ -49,7 +50,7 @@ only x y (suc i) e = absurd (some-ne-none y (sym e))
 pub opens : (o : Opening) (memory : List ℕ) → HoldsWords o memory [] →
     Kept o (opening {S = Unit {0}} memory [] (first_view o))
 opens o memory holds =
-    let n : ℕ = (limits o).callers + 1 in
+    let n : ℕ = (limits o).callers + parts_in (shape o) in
     record {
       execution = [];
       valid = tt;

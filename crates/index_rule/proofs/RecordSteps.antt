@@ -12,7 +12,7 @@ use Rattle.word_layout.specs.State.{IsLockable, IsUnlockedWord, word_of_state}
 use Rattle.word_layout.specs.Places.{IsPlace}
 use Rattle.word_layout.specs.Words.{IsWord, PlaceWord, Word, address_of}
 use Rattle.word_layout.specs.Limits.{word_count}
-use Rattle.word_layout.specs.declared.limits.Limits.{Limits}
+use Rattle.word_layout.specs.Shape.{Shape}
 use Rattle.word_layout.proofs.WordNames.{address_of-within, stand_apart}
 use Rattle.index_machine.specs.declared.events.Action.TheVariants.{LoadKey, LoadState, LoadValue, Lock}
 use Rattle.index_machine.specs.declared.events.Action.TheVariants.{FailLock, StoreValue, Unlock}
@@ -20,8 +20,8 @@ use Rattle.index_machine.specs.declared.events.Action.{Action}
 use Rattle.map_model.specs.Map.{key_of}
 use Rattle.index_machine.specs.declared.opening.Opening.{Opening}
 use Rattle.index_machine.specs.Execution.{Execution, Without}
-use Rattle.index_machine.specs.Words.{limits, store, word}
-use Rattle.index_machine.specs.Sections.{IsCaller, IsKeeper, IsReading}
+use Rattle.index_machine.specs.Words.{shape, store, word}
+use Rattle.index_machine.specs.Sections.{IsCaller, IsReading}
 use Rattle.index_machine.specs.Rows.{InBuffer, role, role_key}
 use Rattle.index_machine.specs.Forms.{Form, Locked}
 use Rattle.index_machine.specs.Forms.{IsLockedBy, is_removed, state_word}
@@ -30,7 +30,7 @@ use Rattle.index_machine.specs.Places.{form}
 use Rattle.index_machine.specs.Reaching.{reached}
 use Rattle.index_machine.specs.Permissions.{IsBufferFor, MayInsertInto}
 use Rattle.index_machine.specs.LivePlaces.{live_place}
-use Rattle.index_machine.specs.RecordConditions.{HasKey, HoldsNoLock, IsAt, IsInArrayOf, MayLookAt}
+use Rattle.index_machine.specs.RecordConditions.{HasKey, HoldsNoLock, IsAt, IsInArrayOf, KeepsPlace, MayLookAt}
 use Rattle.index_machine.specs.RecordConditions.{MayFailLock, MayLoadKey, MayLoadState, MayLoadValue, MayLock}
 use Rattle.index_machine.specs.RecordConditions.{IsChangeTo, MayUnlock}
 use Rattle.index_machine.specs.Conditions.{Valid}
@@ -53,7 +53,7 @@ use Rattle.index_rule.specs.Steps.{value_store}
 use Rattle.index_rule.proofs.LockWords.{locked_on}
 use Rattle.index_rule.proofs.StateForms.{forwards_by_word, unlocked_by_word}
 use Rattle.index_rule.proofs.StepKinds.{Tells, by_name, exchanges, loads, stores}
-use Rattle.index_rule.proofs.Standing.{at_keyed, at_on, at_role, keyed_on, keyed_place}
+use Rattle.index_rule.proofs.Standing.{at_keyed, at_on, at_role, kept_keyed, kept_on, kept_place, keyed_place}
 use Rattle.index_rule.proofs.Standing.{stays_inside}
 
 -- ---- conditions, whatever others did ----
@@ -62,23 +62,23 @@ use Rattle.index_rule.proofs.Standing.{stays_inside}
 seen_keyed : (o : Opening) (c p : ℕ) (t : Execution) → Valid o t → CanSee o c p t → HasKey o p t
 seen_keyed o c p t valid can =
     ⊎_elim (λ (at : IsAt o c p t). at_keyed o c p t valid at)
-    (λ (z : IsKeeper o c × HasKey o p t). z.1) can
+    (λ (keeps : KeepsPlace o t c p). kept_keyed o c p t keeps) can
 
 -- and is a place of the table
 seen_place : (o : Opening) (c p : ℕ) (t : Execution) → Valid o t → CanSee o c p t →
-    IsPlace (limits o) p
+    IsPlace (shape o) p
 seen_place o c p t valid can = keyed_place o t valid p (seen_keyed o c p t valid can)
 
 seen_on : (o : Opening) (c p : ℕ) (n t : Execution) → Valid o (n ++ t) → Without c n →
     CanSee o c p t → CanSee o c p (n ++ t)
 seen_on o c p n t valid out can =
     ⊎_elim (λ (at : IsAt o c p t). inl (at_on o c p n t valid (stays_inside c n out) at))
-    (λ (z : IsKeeper o c × HasKey o p t).
-    inr (z.0, (z.1.0, ap role_key (keyed_on o c p n t z.0 valid out z.1) ∙ z.1.1))) can
+    (λ (keeps : KeepsPlace o t c p). inr (kept_on o c p n t valid out keeps)) can
 
-look : (o : Opening) (c p : ℕ) (t : Execution) → CanSee o c p t → MayLookAt o c p t
-look o c p t can =
-    ⊎_elim (λ (at : IsAt o c p t). inl at) (λ (z : IsKeeper o c × HasKey o p t). inr z.0) can
+look : (o : Opening) (c p : ℕ) (t : Execution) → Valid o t → CanSee o c p t → MayLookAt o c p t
+look o c p t valid can =
+    ⊎_elim (λ (at : IsAt o c p t). inl at)
+    (λ (keeps : KeepsPlace o t c p). inr (kept_place o c p t valid keeps)) can
 
 -- a redirect is met in an array alone
 follows : (o : Opening) (c p to : ℕ) (t : Execution) → Valid o t → IsCaller o c → CanSee o c p t →
@@ -93,14 +93,14 @@ follows o c p to t valid caller can e =
           let f = forwards_by_word (form o p t) to e in
           absurd ((reached_forms o t valid c p caller z).0 to f.0 f.1)) at.there,
     ))
-    (λ (z : IsKeeper o c × HasKey o p t). absurd (let keeper = z.0 in omega arith)) can
+    (λ (keeps : KeepsPlace o t c p). absurd (let keeper = keeps.3 in omega arith)) can
 
 may_load_state : (o : Opening) (c p : ℕ) (t : Execution) → Valid o t → CanSee o c p t →
     MayLoadState o c p (word o t (PlaceWord p State)) t
 may_load_state o c p t valid can =
     let says = sym ((represented o t valid).states p (seen_keyed o c p t valid can)) in
     record {
-      allowed = look o c p t can;
+      allowed = look o c p t valid can;
       found_word = refl;
       says = says;
       follows = λ caller to e. follows o c p to t valid caller can (says ∙ e);
@@ -110,7 +110,7 @@ may_load_value : (o : Opening) (c p : ℕ) (t : Execution) → Valid o t → Can
     MayLoadValue o c p (word o t (PlaceWord p Value)) t
 may_load_value o c p t valid can =
     record {
-      allowed = look o c p t can;
+      allowed = look o c p t valid can;
       found_word = refl;
       says = (represented o t valid).values p (seen_keyed o c p t valid can);
     }
@@ -120,7 +120,7 @@ may_load_key : (o : Opening) (c p : ℕ) (t : Execution) → Valid o t → CanSe
 may_load_key o c p t valid can =
     let keyed = seen_keyed o c p t valid can in
     record {
-      allowed = look o c p t can;
+      allowed = look o c p t valid can;
       found_word = refl;
       says = keyed.1 ∙ ap Some (sym ((represented o t valid).keys p keyed.0 keyed.1));
     }
@@ -165,31 +165,31 @@ place_number (PlaceWord p part) = p + 1
 place_number _ = 0
 
 -- a place of the table is one however this is known
-place_named : (l : Limits) (p : ℕ) → ∥ IsPlace l p ∥₁ → (w : Word) → IsWord l w →
-    address_of l w ≡ p → IsPlace l p
-place_named l p some w is at = go w is (∥∥₁_elim some (hlevel props) (λ there.
-    ap place_number ((stand_apart l).apart w (PlaceWord p Key) is there (at ∙ omega arith))))
+place_named : (s : Shape) (p : ℕ) → ∥ IsPlace s p ∥₁ → (w : Word) → IsWord s w →
+    address_of s w ≡ p → IsPlace s p
+place_named s p some w is at = go w is (∥∥₁_elim some (hlevel props) (λ there.
+    ap place_number ((stand_apart s).apart w (PlaceWord p Key) is there (at ∙ omega arith))))
   where
-    go : (w : Word) → IsWord l w → place_number w ≡ p + 1 → IsPlace l p
-    go (PlaceWord q part) is e = subst (IsPlace l) (omega arith) is
+    go : (w : Word) → IsWord s w → place_number w ≡ p + 1 → IsPlace s p
+    go (PlaceWord q part) is e = subst (IsPlace s) (omega arith) is
     go _ is e = absurd (omega arith)
 
 -- a place that the hand can see is one of the table
 pub seen_by_hand : (b : Board) (h : Hand) (p : ℕ) → IsHandOf b h →
-    CanSee (opening_of b) h.number p (known h) → IsPlace (limits (opening_of b)) p
+    CanSee (opening_of b) h.number p (known h) → IsPlace (shape (opening_of b)) p
 seen_by_hand b h p of can =
-    let l = limits (opening_of b) in
-    let some : ∥ IsPlace l p ∥₁ = ∥∥₁_elim (h.following (opening_of b) of.opened) (hlevel props)
+    let s = shape (opening_of b) in
+    let some : ∥ IsPlace s p ∥₁ = ∥∥₁_elim (h.following (opening_of b) of.opened) (hlevel props)
     (λ follows. merely (seen_place (opening_of b) h.number p (known h) follows.valid can)) in
-    let below : p < word_count l = ∥∥₁_elim some (hlevel props)
-    (λ there. let z = address_of-within l (PlaceWord p Key) there in omega arith) in
-    let w = (stand_apart l).named p below in
-    place_named l p some w.0 w.1 w.2
+    let below : p < word_count s = ∥∥₁_elim some (hlevel props)
+    (λ there. let z = address_of-within s (PlaceWord p Key) there in omega arith) in
+    let w = (stand_apart s).named p below in
+    place_named s p some w.0 w.1 w.2
 
 -- and small enough for the addresses of its words
-pub place_below : (o : Opening) (p : ℕ) → IsPlace (limits o) p → p < 2 ^ 28
+pub place_below : (o : Opening) (p : ℕ) → IsPlace (shape o) p → p < 2 ^ 28
 place_below o p there =
-    let z = address_of-within (limits o) (PlaceWord p Key) there in
+    let z = address_of-within (shape o) (PlaceWord p Key) there in
     let most = o.layout.kept.most_words in
     omega arith
 
@@ -288,8 +288,8 @@ module _ (o : Opening) (slots id : ℕ) (me : Me (Unit {0}) View) (c : ℕ)
       ap (form o p) (sym e)
       ∙ locked_on o c p newer me.0.known (subst (Valid o) (sym e) valid) out at v x y r f
 
-  pub loads_state : (p a : ℕ) → CanSee o c p me.0.known → IsPlace (limits o) p →
-      a ≡ offset_of_word (limits o) (PlaceWord p State) →
+  pub loads_state : (p a : ℕ) → CanSee o c p me.0.known → IsPlace (shape o) p →
+      a ≡ offset_of_word (shape o) (PlaceWord p State) →
       Allows (Kept o) slots id me a (λ n. n) (λ n x. Does me (state_load (word_in me.0 a) n) x)
   loads_state p a can is_place at =
       by_name o slots id me c is live (PlaceWord p State) a (λ n. n) state_load is_place at
@@ -297,8 +297,8 @@ module _ (o : Opening) (slots id : ℕ) (me : Me (Unit {0}) View) (c : ℕ)
       (λ _. refl)
       (λ t valid newer e out. may_load_state o c p t valid (seen_now t newer p valid e out can)))
 
-  pub loads_value : (p a : ℕ) → CanSee o c p me.0.known → IsPlace (limits o) p →
-      a ≡ offset_of_word (limits o) (PlaceWord p Value) →
+  pub loads_value : (p a : ℕ) → CanSee o c p me.0.known → IsPlace (shape o) p →
+      a ≡ offset_of_word (shape o) (PlaceWord p Value) →
       Allows (Kept o) slots id me a (λ n. n) (λ n x. Does me (value_load (word_in me.0 a) n) x)
   loads_value p a can is_place at =
       by_name o slots id me c is live (PlaceWord p Value) a (λ n. n) value_load is_place at
@@ -306,8 +306,8 @@ module _ (o : Opening) (slots id : ℕ) (me : Me (Unit {0}) View) (c : ℕ)
       (λ _. refl)
       (λ t valid newer e out. may_load_value o c p t valid (seen_now t newer p valid e out can)))
 
-  pub loads_key : (p a : ℕ) → CanSee o c p me.0.known → IsPlace (limits o) p →
-      a ≡ offset_of_word (limits o) (PlaceWord p Key) →
+  pub loads_key : (p a : ℕ) → CanSee o c p me.0.known → IsPlace (shape o) p →
+      a ≡ offset_of_word (shape o) (PlaceWord p Key) →
       Allows (Kept o) slots id me a (λ n. n) (λ n x. Does me (key_load (word_in me.0 a) n) x)
   loads_key p a can is_place at =
       by_name o slots id me c is live (PlaceWord p Key) a (λ n. n) key_load is_place at
@@ -316,7 +316,7 @@ module _ (o : Opening) (slots id : ℕ) (me : Me (Unit {0}) View) (c : ℕ)
       (λ t valid newer e out. may_load_key o c p t valid (seen_now t newer p valid e out can)))
 
   pub locks : (p a x y : ℕ) → y ≡ x + 4 → IsAt o c p me.0.known → HoldsNoLock o c me.0.known → IsLockable x →
-      IsPlace (limits o) p → a ≡ offset_of_word (limits o) (PlaceWord p State) →
+      IsPlace (shape o) p → a ≡ offset_of_word (shape o) (PlaceWord p State) →
       Allows (Kept o) slots id me a (λ n. either (n == x) y n)
       (λ n w. Does me (cond (n == x) (lock_made (word_in me.0 a) x)
       (lock_failed (word_in me.0 a) x n)) w)
@@ -333,7 +333,7 @@ module _ (o : Opening) (slots id : ℕ) (me : Me (Unit {0}) View) (c : ℕ)
       )))
 
   pub stores_value : (p a y : ℕ) → IsAt o c p me.0.known → IsLockedBy c (form o p me.0.known) →
-      IsPlace (limits o) p → a ≡ offset_of_word (limits o) (PlaceWord p Value) →
+      IsPlace (shape o) p → a ≡ offset_of_word (shape o) (PlaceWord p Value) →
       Allows (Kept o) slots id me a (λ _. y)
       (λ _ x. Does me (value_store (word_in me.0 a) y) x)
   stores_value p a y at held is_place here =
@@ -355,8 +355,8 @@ module _ (o : Opening) (slots id : ℕ) (me : Me (Unit {0}) View) (c : ℕ)
   -- ---- unlocking ----
 
   pub unlocks : (p a word : ℕ) (removed : Bool) → MayRelease o c p removed me.0.known →
-      word ≡ unlocked_word o p removed me.0.known → IsPlace (limits o) p →
-      a ≡ offset_of_word (limits o) (PlaceWord p State) →
+      word ≡ unlocked_word o p removed me.0.known → IsPlace (shape o) p →
+      a ≡ offset_of_word (shape o) (PlaceWord p State) →
       Allows (Kept o) slots id me a (λ _. word)
       (λ _ x. Does me (unlock_store me.0 (word_in me.0 a) word) x)
   unlocks p a word removed may stored is_place here =

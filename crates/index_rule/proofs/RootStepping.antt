@@ -1,4 +1,4 @@
--- What a hand knows of the root and of groups after one step of its own.
+-- What a hand knows of the roots and of groups after one step of its own.
 use Rattle.std.proofs.Common.{◌≡◌, ℕ, Bool, true, cond, Some, None, ◌++◌, inl, refl, sym, ap}
 use Rattle.std.proofs.Common.{◌∙◌, eq-eqb, false, subst}
 use Rattle.index_machine.specs.declared.events.Action.{Action}
@@ -22,34 +22,39 @@ use Rattle.index_rule.proofs.Stepping.{built_known, known_is, valid_after}
 -- ---- the root ----
 
 -- the root word that was loaded is that of the moment
-root_found : (b : Board) (h k : Hand) (found : ℕ) (of : IsHandOf b h)
-    (m : Makes b h (LoadRoot found) k) → root (opening_of b) (m.acts.0 ++ known h) ≡ found
-root_found b h k found of m = (valid_after b h k (LoadRoot found) of m).0.says
+root_found : (b : Board) (h k : Hand) (part found : ℕ) (of : IsHandOf b h)
+    (m : Makes b h (LoadRoot part found) k) →
+    root (opening_of b) part (m.acts.0 ++ known h) ≡ found
+root_found b h k part found of m = (valid_after b h k (LoadRoot part found) of m).0.says
 
 -- the hand sees the slots that are in use by it
-pub sees_after_root : (b : Board) (h k : Hand) (found side i : ℕ) → IsHandOf b h →
-    Makes b h (LoadRoot found) k → IsInUse found side i → SeesSlot k.number side i (known k)
-sees_after_root b h k found side i of m in_use = (
+pub sees_after_root : (b : Board) (h k : Hand) (part found side i : ℕ) → IsHandOf b h →
+    Makes b h (LoadRoot part found) k → IsInUse found side i →
+    SeesSlot k.number part side i (known k)
+sees_after_root b h k part found side i of m in_use = (
   found,
-  now b h k (LoadRoot found) of m (λ z t. root_seen z t ≡ Some found)
-      (own_step root_seen_after None h.number (LoadRoot found) (m.acts.0 ++ known h)),
+  now b h k (LoadRoot part found) of m (λ z t. root_seen z part t ≡ Some found)
+      (own_step (root_seen_after part) None h.number (LoadRoot part found) (m.acts.0 ++ known h)
+      ∙ ap (λ (z : Bool). cond z (Some found) (root_seen h.number part (m.acts.0 ++ known h)))
+      (eq-eqb part part refl)),
   in_use,
 )
 
 -- ---- groups ----
 
 -- the group that a slot named at the moment of its load
-slot_found : (b : Board) (h k : Hand) (side i found : ℕ) (of : IsHandOf b h)
-    (m : Makes b h (LoadSlotGroup side i found) k) →
-    slot (opening_of b) side i (m.acts.0 ++ known h) ≡ found
-slot_found b h k side i found of m = (valid_after b h k (LoadSlotGroup side i found) of m).0.says
+slot_found : (b : Board) (h k : Hand) (part side i found : ℕ) (of : IsHandOf b h)
+    (m : Makes b h (LoadSlotGroup part side i found) k) →
+    slot (opening_of b) part side i (m.acts.0 ++ known h) ≡ found
+slot_found b h k part side i found of m =
+    (valid_after b h k (LoadSlotGroup part side i found) of m).0.says
 
 -- the hand stands in the group
-pub stands_after_slot : (b : Board) (h k : Hand) (side i found : ℕ) → IsHandOf b h →
-    Makes b h (LoadSlotGroup side i found) k → stands_in k.number found (known k) ≡ true
-stands_after_slot b h k side i found of m =
-    now b h k (LoadSlotGroup side i found) of m (λ z t. stands_in z found t ≡ true)
-    (own_step (stands_in_after found) false h.number (LoadSlotGroup side i found)
+pub stands_after_slot : (b : Board) (h k : Hand) (part side i found : ℕ) → IsHandOf b h →
+    Makes b h (LoadSlotGroup part side i found) k → stands_in k.number found (known k) ≡ true
+stands_after_slot b h k part side i found of m =
+    now b h k (LoadSlotGroup part side i found) of m (λ z t. stands_in z found t ≡ true)
+    (own_step (stands_in_after found) false h.number (LoadSlotGroup part side i found)
     (m.acts.0 ++ known h)
     ∙ ap (λ (z : Bool). cond z true (stands_in h.number found (m.acts.0 ++ known h)))
     (eq-eqb found found refl))
@@ -69,18 +74,19 @@ pub built_moment : (b : Board) (h k : Hand) (d : Action) (of : IsHandOf b h) (m 
 built_moment b h k d of m =
     (subst AreBuilt (known_is b h k d of m) (built_known b h k d of m)).1
 
--- the root word is the one of the opening
-pub root_is : (b : Board) (h k : Hand) (found : ℕ) → IsHandOf b h → Makes b h (LoadRoot found) k →
-    found ≡ opening_root (opening_of b)
-root_is b h k found of m =
-    sym (root_found b h k found of m)
+-- the root word of a part is the one of the opening
+pub root_is : (b : Board) (h k : Hand) (part found : ℕ) → IsHandOf b h →
+    Makes b h (LoadRoot part found) k → found ≡ opening_root (opening_of b) part
+root_is b h k part found of m =
+    sym (root_found b h k part found of m)
     ∙ (root_as_opened (opening_of b) (m.acts.0 ++ known h)
-    (built_moment b h k (LoadRoot found) of m)).0
+    (built_moment b h k (LoadRoot part found) of m) part).0
 
 -- and each slot names the group that it named then
-pub slot_is : (b : Board) (h k : Hand) (side i found : ℕ) → IsHandOf b h →
-    Makes b h (LoadSlotGroup side i found) k → found ≡ opening_slot (opening_of b) side i
-slot_is b h k side i found of m =
-    sym (slot_found b h k side i found of m)
+pub slot_is : (b : Board) (h k : Hand) (part side i found : ℕ) → IsHandOf b h →
+    Makes b h (LoadSlotGroup part side i found) k →
+    found ≡ opening_slot (opening_of b) part side i
+slot_is b h k part side i found of m =
+    sym (slot_found b h k part side i found of m)
     ∙ (root_as_opened (opening_of b) (m.acts.0 ++ known h)
-    (built_moment b h k (LoadSlotGroup side i found) of m)).1 side i
+    (built_moment b h k (LoadSlotGroup part side i found) of m) part).1 side i

@@ -7,7 +7,7 @@ use Rattle.index_machine.specs.declared.events.Action.TheVariants.{LoadEpoch}
 use Rattle.index_machine.specs.declared.events.Action.TheVariants.{Enter}
 use Rattle.index_machine.specs.Execution.{Execution, Continues, Without, event}
 use Rattle.index_machine.specs.Words.{word, store_of, stored}
-use Rattle.index_machine.specs.Sections.{IsCaller, IsKeeper, crossings, crossings_after}
+use Rattle.index_machine.specs.Sections.{IsCaller, crossings, crossings_after}
 use Rattle.index_machine.specs.Rows.{Holds, HoldsNone}
 use Rattle.index_machine.specs.ObservedHeads.{IsUnobserved}
 use Rattle.index_machine.specs.Conditions.{IsReading, MayEnter, MayLeave, Valid}
@@ -125,16 +125,16 @@ module _ (b : Board) (h k : Hand) (action : Action) (of : IsHandOf b h)
       (held_words_on (opening_of b) h.number place m.acts.0 (known h) valid_after.1 others_only held
       part)
 
-  -- what nobody relies on, while the keeper holds it
-  pub still_unobserved : IsKeeper (opening_of b) h.number → (place : ℕ) → IsNoPushOf place action →
+  -- what nobody relies on, while the hand holds it
+  pub still_unobserved : (place : ℕ) → IsNoPushOf place action →
       Holds (opening_of b) h.number place (known h) →
       IsUnobserved (opening_of b) place (known h) → IsUnobserved (opening_of b) place (known k)
-  still_unobserved keeper place none held unseen =
+  still_unobserved place none held unseen =
       subst (IsUnobserved (opening_of b) place) (sym known_is)
       (unobserved_on (opening_of b) place (event h.number action ∷ m.acts.0) (known h) valid_after (
         none,
-        others_push_none (opening_of b) place h.number m.acts.0 (known h) keeper valid_after.1
-            others_only,
+        others_push_none (opening_of b) place h.number m.acts.0 (known h) valid_after.1 others_only
+            held,
       )
       (λ z. unused-held (sym z ∙ held)) unseen)
 

@@ -16,7 +16,7 @@ use Rattle.index_machine.specs.declared.events.Event.{Event}
 use Rattle.index_machine.specs.declared.opening.Opening.{Opening}
 use Rattle.index_machine.specs.Execution.{Execution, event, Without}
 use Rattle.index_machine.specs.Lists.{In}
-use Rattle.index_machine.specs.Words.{limits, store_of, stored, word}
+use Rattle.index_machine.specs.Words.{shape, store_of, stored, word}
 use Rattle.index_machine.specs.Sections.{crossings, crossings_after}
 use Rattle.index_machine.specs.Conditions.{Allowed, Valid}
 use Rattle.index_machine.proofs.Executions.{crossings_on, valid_before}
@@ -107,29 +107,29 @@ kept_with o s id a v w r at sub knows =
 
 -- the memory holds the words of the execution with its new event
 holds_more : (o : Opening) (memory : List ℕ) (t : Execution) (c : ℕ) (d : Action) (w : Word)
-    (x : ℕ) → IsWord (limits o) w → HoldsWords o memory t →
+    (x : ℕ) → IsWord (shape o) w → HoldsWords o memory t →
     ((u : Word) → stored (store_of c d) u (word o t u) ≡ cond (same_word w u) x (word o t u)) →
-    HoldsWords o (slice_set memory (offset_of_word (limits o) w) x) (event c d ∷ t)
+    HoldsWords o (slice_set memory (offset_of_word (shape o) w) x) (event c d ∷ t)
 holds_more o memory t c d w x is_word old stores =
     record {
-      wide = length-set memory (offset_of_word (limits o) w) x ∙ old.wide;
+      wide = length-set memory (offset_of_word (shape o) w) x ∙ old.wide;
       each = λ u is. by_test u is (same_word w u) refl;
     }
   where
-    by_test : (u : Word) → IsWord (limits o) u → (b : Bool) → same_word w u ≡ b →
-        slice_index (slice_set memory (offset_of_word (limits o) w) x) (offset_of_word (limits o) u)
+    by_test : (u : Word) → IsWord (shape o) u → (b : Bool) → same_word w u ≡ b →
+        slice_index (slice_set memory (offset_of_word (shape o) w) x) (offset_of_word (shape o) u)
         ≡ stored (store_of c d) u (word o t u)
     by_test u is true e =
-        let after : List ℕ = slice_set memory (offset_of_word (limits o) w) x in
+        let after : List ℕ = slice_set memory (offset_of_word (shape o) w) x in
         let same : w ≡ u = same_word-true w u e in
-        ap (λ (z : Word). slice_index after (offset_of_word (limits o) z)) (sym same)
-        ∙ (stored_at (limits o) memory w x old.wide is_word
+        ap (λ (z : Word). slice_index after (offset_of_word (shape o) z)) (sym same)
+        ∙ (stored_at (shape o) memory w x old.wide is_word
         ∙ sym (stores u ∙ ap (λ (z : Bool). cond z x (word o t u)) e))
     by_test u is false e =
         let differ : w ≢ u =
         λ same. let z : true ≡ false = sym (same_word-refl w) ∙ (ap (same_word w) same ∙ e) in cc
         in
-        kept_at (limits o) memory w u x is_word is differ
+        kept_at (shape o) memory w u x is_word is differ
         ∙ (old.each u is ∙ sym (stores u ∙ ap (λ (z : Bool). cond z x (word o t u)) e))
 
 -- ---- any step ----
@@ -231,9 +231,9 @@ locked_stepped v d newer c x is out valid old = record {
 }
 
 pub acts : (o : Opening) (slots id : ℕ) (me : Me (Unit {0}) View) (c : ℕ) (w : Word)
-    (f : ℕ → ℕ) (d : ℕ → Action) → IsWord (limits o) w → me.0.numbers ≡ c ∷ [] →
+    (f : ℕ → ℕ) (d : ℕ → Action) → IsWord (shape o) w → me.0.numbers ≡ c ∷ [] →
     me.0.opening ≡ Some o → Owes o c me.0 w f d →
-    Allows (Kept o) slots id me (offset_of_word (limits o) w) f (λ n x. Does me (d n) x)
+    Allows (Kept o) slots id me (offset_of_word (shape o) w) f (λ n x. Does me (d n) x)
 acts o slots id me c w f d is_word is live owes s r _ at _ =
     let v : View = me.0 in
     let k = r.known id v at (is_some v.opening o live) in
@@ -244,7 +244,7 @@ acts o slots id me c w f d is_word is live owes s r _ at _ =
     let out : Without c newer = k.goes_on.2 c mine in
     let own = owes t r.valid newer whole out in
     let me_is : number v ≡ c = ap first_of is in
-    let a : ℕ = offset_of_word (limits o) w in
+    let a : ℕ = offset_of_word (shape o) w in
     let found : slice_index s.words a ≡ word o t w = r.words.each w is_word in
     let here : Action = d (word o t w) in
     let named : event (number v) here ∷ newer ++ v.known ≡ event c here ∷ t =

@@ -12,7 +12,8 @@ use Rattle.index_machine.specs.declared.opening.Opening.{Opening}
 use Rattle.index_machine.specs.Execution.{Execution, Without}
 use Rattle.index_machine.specs.Words.{word}
 use Rattle.index_machine.specs.Lanes.{HasLane, begun_word, lanes}
-use Rattle.index_machine.specs.Sections.{IsKeeper, IsReading}
+use Rattle.index_machine.specs.Sections.{IsReading}
+use Rattle.index_machine.specs.Keepers.{IsGroupKeeper}
 use Rattle.index_machine.specs.Rows.{InBuffer, Holds, role}
 use Rattle.index_machine.specs.Forms.{Unlocked, state_word}
 use Rattle.index_machine.specs.Places.{first_version}
@@ -34,11 +35,11 @@ use Rattle.index_rule.specs.OwnRows.{place_of_private}
 -- ---- what a hand can load ----
 
 -- the hand can walk through the buffer: the caller stands in the group, where a walk meets all rows,
--- or the hand is the keeper's
+-- or the hand is that of the keeper of the group's part
 abbrev pub CanWalk : Opening → ℕ → ℕ → Execution → Type 0
 CanWalk o hand group t =
     (IsReading o hand t × (stands_in hand group t ≡ true) × IsWalkable o group t)
-    ⊎ IsKeeper o hand
+    ⊎ IsGroupKeeper o hand group
 
 -- the place is a row of the buffer, for some key
 abbrev pub IsRowOf : Opening → ℕ → ℕ → Execution → Type 0

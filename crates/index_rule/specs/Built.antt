@@ -24,15 +24,15 @@ IsBuilt (StoreArray group place part value) = ⊥
 IsBuilt (StoreRedirect group place key to) = ⊥
 IsBuilt (StoreOpened group first) = ⊥
 IsBuilt (Install spot first low high) = ⊥
-IsBuilt (StoreSlot side i group) = ⊥
+IsBuilt (StoreSlot part side i group) = ⊥
 IsBuilt (Close place expected) = ⊥
 IsBuilt (Copy place value) = ⊥
 IsBuilt (StoreDirect place from key removed stored) = ⊥
 IsBuilt (StoreMoved place) = ⊥
-IsBuilt (LoadSlotPivot side i found) = ⊥
-IsBuilt (StoreUnusedPivot side i pivot) = ⊥
-IsBuilt (StoreUnusedGroup side i group) = ⊥
-IsBuilt (StoreRoot stored) = ⊥
+IsBuilt (LoadSlotPivot part side i found) = ⊥
+IsBuilt (StoreUnusedPivot part side i pivot) = ⊥
+IsBuilt (StoreUnusedGroup part side i group) = ⊥
+IsBuilt (StoreRoot part stored) = ⊥
 IsBuilt _ = Unit {0}
 
 -- each step is of such a kind

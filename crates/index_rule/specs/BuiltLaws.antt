@@ -53,8 +53,9 @@ KeysHaveOnePlaceEach =
     (role o place t ≡ InArray first k → role o other t ≡ InArray second k → place ≡ other)
     × (role o place t ≡ InBuffer first k → role o other t ≡ InBuffer second k → place ≡ other)
 
--- the root is the one of the opening
+-- the root of each part is the one of the opening
 abbrev pub RootIsAsOpened : Type 0
 RootIsAsOpened =
-    (o : Opening) (t : Execution) → AreBuilt t →
-    (root o t ≡ opening_root o) × ((side i : ℕ) → slot o side i t ≡ opening_slot o side i)
+    (o : Opening) (t : Execution) → AreBuilt t → (part : ℕ) →
+    (root o part t ≡ opening_root o part)
+    × ((side i : ℕ) → slot o part side i t ≡ opening_slot o part side i)

@@ -5,7 +5,8 @@ use Rattle.map_model.specs.declared.entries.Change.TheVariants.{Put, Remove}
 use Rattle.index_machine.specs.declared.opening.Opening.{Opening}
 use Rattle.index_machine.specs.Execution.{Execution, Without}
 use Rattle.index_machine.specs.Words.{limits}
-use Rattle.index_machine.specs.Sections.{IsKeeper, IsReading}
+use Rattle.index_machine.specs.Sections.{IsReading}
+use Rattle.index_machine.specs.Keepers.{IsPart, IsPartKeeper}
 use Rattle.index_machine.specs.Rows.{InBuffer, role_key, role}
 use Rattle.index_machine.specs.Forms.{Form, Blank, Unlocked, Locked, Copied, Redirect, Moved}
 use Rattle.index_machine.specs.Forms.{IsLockedBy, is_removed, without_lock, state_word}
@@ -14,20 +15,27 @@ use Rattle.index_machine.specs.Reaching.{SeesSlot}
 use Rattle.index_machine.specs.Permissions.{IsBufferFor, MayInsertInto}
 use Rattle.index_machine.specs.LivePlaces.{live_place}
 use Rattle.index_machine.specs.Conditions.{Valid}
-use Rattle.index_machine.specs.RecordConditions.{HasKey, IsAt}
+use Rattle.index_machine.specs.RecordConditions.{IsAt, KeepsPlace}
 
 -- ---- what a hand can load ----
 
--- the words of the place can be loaded: the caller stands there, or the keeper knows a key of it
+-- the words of the place can be loaded: the caller stands there, or the place is in a group of the
+-- keeper's part
 abbrev pub CanSee : Opening → ℕ → ℕ → Execution → Type 0
-CanSee o hand place t = IsAt o hand place t ⊎ (IsKeeper o hand × HasKey o place t)
+CanSee o hand place t = IsAt o hand place t ⊎ KeepsPlace o t hand place
 
--- the words of the slot can be loaded: the caller sees the slot in the root that it loaded, or the
--- keeper names one of the table
-abbrev pub CanReadSlot : Opening → ℕ → ℕ → ℕ → Execution → Type 0
-CanReadSlot o hand side slot t =
-    (IsReading o hand t × SeesSlot hand side slot t)
-    ⊎ (IsKeeper o hand × (side < 2) × (slot < (limits o).slots))
+-- the keeper of the part names a slot of its root
+pub record KeepsSlot (o : Opening) (hand part side slot : ℕ) : Type 0 where
+  pub keeper : IsPartKeeper o hand part
+  pub is_part : IsPart o part
+  pub is_side : side < 2
+  pub is_slot : slot < (limits o).slots
+
+-- the words of the slot can be loaded: the caller sees the slot in the root word of the part that it
+-- loaded, or the part's keeper names one of its root
+abbrev pub CanReadSlot : Opening → ℕ → ℕ → ℕ → ℕ → Execution → Type 0
+CanReadSlot o hand part side slot t =
+    (IsReading o hand t × SeesSlot hand part side slot t) ⊎ KeepsSlot o hand part side slot
 
 -- ---- what a hand can change ----
 

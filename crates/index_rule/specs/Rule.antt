@@ -5,6 +5,7 @@ use Rattle.std.specs.Prelude.{◌++◌, length}
 use mathlib.Core.Option.{some}
 use lib.ListN.{get_elem?}
 use Rattle.atomic_table.specs.Table.{State, Me}
+use Rattle.word_layout.specs.Shape.{parts_in}
 use Rattle.word_layout.specs.Words.{Word, FreeHead}
 use Rattle.word_layout.specs.WordAt.{word_at}
 use Rattle.map_model.specs.declared.entries.Entry.TheVariants.{Made}
@@ -15,7 +16,7 @@ use Rattle.index_machine.specs.declared.events.Action.TheVariants.{Unlock, LinkR
 use Rattle.index_machine.specs.declared.opening.Opening.{Opening}
 use Rattle.index_machine.specs.Execution.{Execution, event, Without}
 use Rattle.index_machine.specs.Lists.{In, AreDistinct}
-use Rattle.index_machine.specs.Words.{limits}
+use Rattle.index_machine.specs.Words.{shape, limits}
 use Rattle.index_machine.specs.Sections.{IsCaller, IsHand, crossings, crossings_after}
 use Rattle.index_machine.specs.Openings.{opening_map}
 use Rattle.index_machine.specs.LivePlaces.{history, value_in_map}
@@ -97,7 +98,7 @@ counting first (suc n) = first ∷ counting (first + 1) n
 abbrev pub first_view : Opening → View
 first_view o =
     record {
-      numbers = counting 0 ((limits o).callers + 1);
+      numbers = counting 0 ((limits o).callers + parts_in (shape o));
       opening = Some o;
       known = [];
       heard = [];
@@ -132,7 +133,7 @@ number v = first_of v.numbers
 -- the word so far from the front of the memory of a table that was opened so
 abbrev pub word_of_opening : Option Opening → ℕ → Word
 word_of_opening None offset = FreeHead
-word_of_opening (Some o) offset = word_at (limits o) (address_at (limits o) offset)
+word_of_opening (Some o) offset = word_at (shape o) (address_at (shape o) offset)
 
 -- the word so far from the front of the memory of the seat's table
 abbrev pub word_in : View → ℕ → Word

@@ -2,13 +2,13 @@
 -- one form that is named.
 use Rattle.std.specs.Prelude.{ℕ, zero, suc, ◌-◌, ◌%◌, ◌==◌, nat_lt, cond, Bool, Option, Some, None}
 use Rattle.word_layout.specs.declared.headers.HeaderWord.TheVariants as header
-use Rattle.word_layout.specs.Words.{Word, Epoch, SlotGroup, Header, PlaceWord}
+use Rattle.word_layout.specs.Words.{Word, Root, Epoch, SlotGroup, Header, PlaceWord}
 use Rattle.index_machine.specs.declared.events.Action.{Action}
 use Rattle.index_machine.specs.declared.events.Action.TheVariants.{LoadEpoch, LoadFree}
 use Rattle.index_machine.specs.declared.events.Action.TheVariants.{LoadFreeLink, StorePrivate}
 use Rattle.index_machine.specs.declared.events.Action.TheVariants.{LoadState, LoadValue, Lock}
 use Rattle.index_machine.specs.declared.events.Action.TheVariants.{FailLock, StoreValue, Unlock}
-use Rattle.index_machine.specs.declared.events.Action.TheVariants.{LoadSlotGroup, LoadKey}
+use Rattle.index_machine.specs.declared.events.Action.TheVariants.{LoadRoot, LoadSlotGroup, LoadKey}
 use Rattle.index_machine.specs.declared.events.Action.TheVariants.{LoadHead, LoadHeader, LoadLink, LoadPhase}
 use Rattle.index_machine.specs.declared.events.Action.TheVariants.{LinkRow, FailLink}
 use Rattle.index_machine.specs.declared.opening.Opening.{Opening}
@@ -35,9 +35,14 @@ abbrev pub private_store : Word → ℕ → Action
 private_store (PlaceWord place part) n = StorePrivate place part n
 private_store _ n = LoadFree n
 
+-- a root word was loaded
+abbrev pub root_load : Word → ℕ → Action
+root_load (Root part) n = LoadRoot part n
+root_load _ n = LoadFree n
+
 -- the group word of a slot was loaded
 abbrev pub slot_group_load : Word → ℕ → Action
-slot_group_load (SlotGroup side slot) n = LoadSlotGroup side slot n
+slot_group_load (SlotGroup part side slot) n = LoadSlotGroup part side slot n
 slot_group_load _ n = LoadFree n
 
 -- ---- steps on a record ----

@@ -1,6 +1,6 @@
 //! The board: the table of words that all threads share, and the calls that step on it.
 ghost use Rattle.std.specs.Prelude.{◌≡◌};
-ghost use Rattle.word_layout.specs.Layout.{limits_of};
+ghost use Rattle.word_layout.specs.Layout.{shape_of};
 ghost use Rattle.index_rule.specs.Offsets.{offset_count, shift_of};
 
 use crate::rule::Words;
@@ -26,7 +26,7 @@ pub struct Board {
     // How much further behind than its address a word stands in memory that is not hot.
     pub(crate) shift: usize,
     ghost laid: { words.shared.key.layout ≡ layout },
-    ghost wide: { words.shared.table_id.words ≡ offset_count (limits_of layout) },
-    ghost shifted: { shift ≡ shift_of (limits_of layout) },
+    ghost wide: { words.shared.table_id.words ≡ offset_count (shape_of layout) },
+    ghost shifted: { shift ≡ shift_of (shape_of layout) },
     ghost slotless: { words.shared.table_id.slots ≡ 0 },
 }

@@ -5,7 +5,7 @@ ghost use Rattle.index_rule.specs.Rule.{IsFollowing, KeepsLockedWord};
 
 use crate::rule::Place;
 
-/// The right of one caller, or of the keeper, to make steps on one board.
+/// The right of one caller, or of the keeper of one part, to make steps on one board.
 ///
 /// It may move to another thread. At run time it is its number, its present epoch
 /// word and the state word that it locked last.
@@ -24,7 +24,7 @@ pub struct Hand {
 }
 
 impl Hand {
-    /// A caller's number, from 0, or the number of callers for the keeper's hand.
+    /// A caller's number, from 0. The keepers' numbers follow those of the callers, by their parts.
     #[inline]
     pub fn number(&self) -> u32
         ensures { result ≡ self.now.number }

@@ -35,7 +35,7 @@ pub fn keys_have_one_place_each()
     ensures { KeysHaveOnePlaceEach }
 {}
 
-/// The root names one slot of side 0, and this names group 0.
+/// The root of each part names one slot of side 0, and this names the first group of the part.
 pub fn root_is_as_opened()
     ensures { RootIsAsOpened }
 {}

@@ -3,10 +3,10 @@
 ghost use Rattle.std.specs.Prelude.{◌==◌, cond};
 ghost use Rattle.index_machine.specs.declared.events.Action.TheVariants.{Enter, Leave, LoadFree};
 ghost use Rattle.index_machine.specs.declared.events.Action.TheVariants.{PopFree, FailPop};
-ghost use Rattle.index_machine.specs.declared.events.Action.TheVariants.{PushFree, FailPush, LoadRoot};
+ghost use Rattle.index_machine.specs.declared.events.Action.TheVariants.{PushFree, FailPush};
 ghost use Rattle.index_rule.specs.Rule.{Does, word_in};
 ghost use Rattle.index_rule.specs.Steps.{epoch_load, link_load, private_store};
-ghost use Rattle.index_rule.specs.Steps.{slot_group_load, state_load, value_load};
+ghost use Rattle.index_rule.specs.Steps.{root_load, slot_group_load, state_load, value_load};
 ghost use Rattle.index_rule.specs.Steps.{lock_made, lock_failed, value_store, unlock_store};
 ghost use Rattle.index_rule.specs.Steps.{key_load, head_load, header_load, phase_load, row_link_load};
 ghost use Rattle.index_rule.specs.Steps.{link_made, link_failed};
@@ -70,7 +70,7 @@ impl Play<(), View> for PushesFree {
 pub struct LoadsRoot;
 
 impl Play<(), View> for LoadsRoot {
-    ghost then = { λ st me n w. Does me (LoadRoot n) w };
+    ghost then = { λ st me n w. Does me (root_load (word_in me.0 st.word) n) w };
 }
 
 pub struct LoadsSlotGroup;

@@ -1,3 +1,4 @@
 pub mod Groups
 pub mod Places
 pub mod Linking
+pub mod Keepers

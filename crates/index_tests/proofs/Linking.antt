@@ -10,11 +10,11 @@ use Rattle.index_machine.specs.declared.events.Action.TheVariants.{LoadPhase, Lo
 use Rattle.index_machine.specs.declared.events.Action.TheVariants.{LoadSlotGroup}
 use Rattle.index_machine.specs.Conditions.{Valid}
 use Rattle.index_machine.specs.Execution.{Execution}
-use Rattle.index_machine.specs.Openings.{greatest_key}
+use Rattle.word_layout.specs.Parts.{greatest_key}
 use Rattle.index_machine.specs.Reaching.{saw_open, saw_open_after}
-use Rattle.index_machine.specs.Words.{limits, word}
+use Rattle.index_machine.specs.Words.{word}
 use Rattle.index_machine.proofs.Executions.{own_step}
-use Rattle.index_machine.proofs.OpeningRows.{opening_role-array, opening_row-live, row_of_place}
+use Rattle.index_machine.proofs.OpeningRows.{opening_live-row, opening_role-array, opening_row-live}
 use Rattle.index_machine.proofs.Options.{none_some}
 use Rattle.machine_buffers.proofs.Walks.{true_of_keys}
 use Rattle.machine_readers.proofs.ReadSections.{saw_open_on}
@@ -42,7 +42,7 @@ use Rattle.delta_buffer.proofs.Carrying.{walk_inside, walk_keeps_row}
 use Rattle.delta_buffer.proofs.Linking.{belongs_elsewhere}
 use Rattle.index_tests.specs.Boards.{IsInside}
 use Rattle.index_tests.specs.Buffers.{CanLink, HasComeToLink, HasRowFor, IsInGroup, OpensWithout}
-use Rattle.index_tests.proofs.Groups.{in_group_slot, of_group_zero, reading_slot}
+use Rattle.index_tests.proofs.Groups.{in_group_slot, of_group_zero}
 
 -- ---- the row ----
 
@@ -75,32 +75,30 @@ none_in_array b key t without valid built a is =
     let o = opening_of b in
     let row = opening_role-array o a 0 key ((arrays_as_opened o t valid built 0 key a).1 is) in
     let live = opening_row-live o a key row.1 row.2 in
-    none_some (sym without ∙ (row_of_place (limits o) 0 o.rows key a live).2)
+    none_some (sym without ∙ (opening_live-row o key a live).2)
 
 module _ (b : Board) (h r s : Hand) (number root group : ℕ) (inside : IsInside b number h)
-    (loads : Makes b h (LoadRoot root) r) (names : Makes b r (LoadSlotGroup 0 0 group) s) where
+    (loads : Makes b h (LoadRoot 0 root) r) (names : Makes b r (LoadSlotGroup 0 0 0 group) s) where
   in_group_s : IsInGroup b number s
   in_group_s = in_group_slot b h r number root inside loads s group names
 
   pub can_see_phase : CanSeePhase (opening_of b) s.number 0 (known s)
   can_see_phase =
       let o = opening_of b in
-      let d = LoadSlotGroup 0 0 group in
+      let d = LoadSlotGroup 0 0 0 group in
       let valid = valid_known b r s d loads.of names in
       let built = built_known b r s d loads.of names in
       record {
-        allowed = inl (
-          reading_slot b h r number root inside loads s group names,
-          in_group_s.search.stands,
-        );
+        allowed = inl (in_group_s.search.call.reading, in_group_s.search.stands);
         true_word = true_of_keys o (known s) valid 0
-            (inl (0, of_group_zero o 0 (known s) built (omega arith)));
+            (inl (0, of_group_zero b 0 (known s) inside.one_part built (omega arith)));
       }
 
   module _ (p : Hand) (found : ℕ) (looks : Makes b s (LoadPhase 0 found) p) where
     in_group_p : IsInGroup b number p
     in_group_p =
         record {
+          one_part = inside.one_part;
           numbered = looks.number ∙ in_group_s.numbered;
           search = search_after b 0 s p (LoadPhase 0 found) tt (λ z. z) looks in_group_s.search;
         }
@@ -122,8 +120,8 @@ module _ (b : Board) (h r s : Hand) (number root group : ℕ) (inside : IsInside
         HasRowFor b key place h → HasComeToLink b number key place p
     has_come key place most without row =
         let o = opening_of b in
-        let first = LoadRoot root in
-        let second = LoadSlotGroup 0 0 group in
+        let first = LoadRoot 0 root in
+        let second = LoadSlotGroup 0 0 0 group in
         let third = LoadPhase 0 found in
         let valid = valid_known b s p third names.of looks in
         let built = built_known b s p third names.of looks in
@@ -144,7 +142,7 @@ module _ (b : Board) (h r s : Hand) (number root group : ℕ) (inside : IsInside
               since = refl;
               stays = tt;
               stands = in_group_p.search.stands;
-              of_key = of_group_zero o key (known p) built most;
+              of_key = of_group_zero b key (known p) inside.one_part built most;
             };
             seen = sees_open;
             array = none_in_array b key (known p) without valid built;
@@ -181,7 +179,11 @@ carries_on b number key place h k on has search before =
     let caller = before.in_group.search.call.reading.caller in
     let whole : Valid o (on.newer ++ known h) = subst (Valid o) (sym on.on) on.valid in
     record {
-      in_group = record { numbered = on.number ∙ before.in_group.numbered; search = search };
+      in_group = record {
+        one_part = before.in_group.one_part;
+        numbered = on.number ∙ before.in_group.numbered;
+        search = search;
+      };
       row = row_for_on b key place h k has before.row;
       seen = subst (λ (z : ℕ × Execution). saw_open z.0 0 z.1 ≡ true)
           (λ i. (sym on.number i, on.on i))

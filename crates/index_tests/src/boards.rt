@@ -7,7 +7,7 @@ ghost use Rattle.index_machine.specs.Sections.{IsCaller};
 ghost use Rattle.index_machine.specs.Words.{limits};
 ghost use Rattle.index_rule.specs.Hands.{known, opening_of};
 ghost use Rattle.index_rule.specs.Opened.{AreNewHands};
-ghost use Rattle.index_tests.specs.Boards.{IsInside, IsNewBoard, Rests, RestsWithNoRow};
+ghost use Rattle.index_tests.specs.Boards.{HasOnePart, IsInside, IsNewBoard, Rests, RestsWithNoRow};
 
 use index_rule::{Board, Hand};
 use std::alloc::Global;
@@ -28,7 +28,7 @@ pub(crate) const SMALL: Limits = Limits {
     first_version: 0,
 };
 
-/// A board with these rows, and its hands.
+/// A board of one part with these rows, and its hands.
 pub(crate) fn opened(
     rt: &impl Abort,
     alloc: Global,
@@ -56,7 +56,8 @@ pub(crate) fn next_hand(
     _number: u32,
     hands: &mut IntoIter<Hand>,
 ) -> Hand
-    requires { AreNewHands _board.now _number (into_iter_items hands.old) }
+    requires one_part { HasOnePart _board.now }
+    requires hands { AreNewHands _board.now _number (into_iter_items hands.old) }
     ensures rests { RestsWithNoRow _board.now _number result }
     ensures others { AreNewHands _board.now (_number + 1) (into_iter_items hands.new) }
 {

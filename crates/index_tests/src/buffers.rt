@@ -1,9 +1,10 @@
 //! A row is linked where its key was not found, and is found then.
 ghost use Rattle.std.specs.Prelude.{◌≡◌, ◌≢◌, ◌↔◌, All, IsTrue};
-ghost use Rattle.index_machine.specs.Sections.{IsCaller, IsKeeper};
+ghost use Rattle.index_machine.specs.Sections.{IsCaller};
+ghost use Rattle.index_machine.specs.Keepers.{IsPartKeeper};
 ghost use Rattle.index_rule.specs.Hands.{IsHandOf, opening_of};
 ghost use Rattle.index_rule.specs.OwnRows.{place_of_private};
-ghost use Rattle.index_tests.specs.Boards.{IsInside, Rests, RestsWithNoRow};
+ghost use Rattle.index_tests.specs.Boards.{HasOnePart, IsInside, Rests, RestsWithNoRow};
 ghost use Rattle.index_tests.specs.Buffers.{CanLink, HasComeToLink, HasRowFor, IsInGroup};
 ghost use Rattle.index_tests.specs.Buffers.{OpensWithout};
 
@@ -35,8 +36,8 @@ pub(crate) fn enter_group(board: &Board, number: u32, hand: &mut Hand)
     ensures { IsInGroup board.now number hand.new }
 {
     enter(board, number, hand);
-    board.load_root(hand);
-    board.load_slot_group(hand, 0, 0);
+    board.load_root(hand, 0);
+    board.load_slot_group(hand, 0, 0, 0);
 }
 
 /// The caller leaves its read section.
@@ -100,9 +101,10 @@ pub(crate) fn count_of_caller(board: &Board, _number: u32, hand: &mut Hand) -> u
 /// How many rows the keeper counts, which has to know first that group 0 is in use.
 pub(crate) fn count_of_keeper(board: &Board, keeper: &mut Hand) -> u32
     requires hand { IsHandOf board.now keeper.old }
-    requires number { IsKeeper (opening_of board.now) keeper.old.number }
+    requires one_part { HasOnePart board.now }
+    requires number { IsPartKeeper (opening_of board.now) keeper.old.number 0 }
 {
-    board.load_root(keeper);
+    board.load_root(keeper, 0);
     count(board, keeper, 0)
 }
 
@@ -151,8 +153,8 @@ fn come_to_link(board: &Board, _number: u32, hand: &mut Hand, _key: u64, _row: &
     requires row { HasRowFor board.now _key (place_of_private _row.now) hand.old }
     ensures { HasComeToLink board.now _number _key (place_of_private _row.now) hand.new }
 {
-    board.load_root(hand);
-    board.load_slot_group(hand, 0, 0);
+    board.load_root(hand, 0);
+    board.load_slot_group(hand, 0, 0, 0);
     board.load_phase(hand, 0);
 }
 

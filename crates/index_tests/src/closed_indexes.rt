@@ -1,7 +1,7 @@
 //! An index that is closed gives the pairs that its callers left.
-ghost use Rattle.std.specs.Prelude.{◌≡◌};
+ghost use Rattle.std.specs.Prelude.{◌≡◌, []};
 ghost use Rattle.xindex_core.specs.OneOrder.{IsPassOfCaller};
-ghost use Rattle.xindex_core.specs.Passes.{IsKeeperOf, limits_of_index};
+ghost use Rattle.xindex_core.specs.Passes.{IsKeeperOf, bounds_of_index, limits_of_index};
 
 use crate::boards::SMALL;
 use crate::indexes::{next_pass, opened_index};
@@ -11,8 +11,8 @@ use std::test::Fail;
 use word_layout::Limits;
 use xindex_core::{Index, Keeper, Opened, Pass, Tried, passes_in_order_are_all};
 
-// The caller puts the row, whose key had this value.
-fn put(
+/// The caller puts the row, whose key had this value.
+pub(crate) fn put(
     rt: &impl Abort,
     index: &Index,
     _caller: u32,
@@ -26,8 +26,15 @@ fn put(
     assert_eq!(rt; pass.try_put(index, row.0, row.1), Tried::Done(old));
 }
 
-// The caller removes the key, which had this value.
-fn remove(rt: &impl Abort, index: &Index, _caller: u32, pass: &mut Pass, key: u64, old: Option<u64>)
+/// The caller removes the key, which had this value.
+pub(crate) fn remove(
+    rt: &impl Abort,
+    index: &Index,
+    _caller: u32,
+    pass: &mut Pass,
+    key: u64,
+    old: Option<u64>,
+)
     requires { IsPassOfCaller index.now _caller pass.old }
     ensures { IsPassOfCaller index.now _caller pass.new }
 {
@@ -43,6 +50,7 @@ fn pairs_of(
     keeper: Keeper,
 ) -> Result<Vec<(u64, u64)>, AllocError>
     requires callers { (limits_of_index index).callers ≡ 2 }
+    requires one_part { bounds_of_index index ≡ [] }
     requires first { IsPassOfCaller index 0 passes.0 }
     requires second { IsPassOfCaller index 1 passes.1 }
     requires keeper { IsKeeperOf index keeper }

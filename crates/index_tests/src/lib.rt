@@ -29,6 +29,8 @@ mod lanes;
 #[cfg(test)]
 mod orders_of_one_key;
 #[cfg(test)]
+mod parts;
+#[cfg(test)]
 mod passes;
 #[cfg(test)]
 mod passes_at_once;

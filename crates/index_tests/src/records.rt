@@ -4,7 +4,7 @@ ghost use Rattle.index_machine.specs.Sections.{IsCaller};
 ghost use Rattle.index_rule.specs.Hands.{IsHandOf, known, opening_of};
 ghost use Rattle.index_rule.specs.Records.{MayRelease};
 ghost use Rattle.record_cell.specs.Finding.{IsReadyAt};
-ghost use Rattle.index_tests.specs.Boards.{Rests};
+ghost use Rattle.index_tests.specs.Boards.{HasOnePart, Rests};
 ghost use Rattle.index_tests.specs.Records.{HasRow};
 
 use crate::boards::{SMALL, enter, next_hand, opened};
@@ -18,7 +18,8 @@ pub(crate) const ROWS: [(u64, u64); 3] = [(5, 50), (6, 60), (7, 70)];
 
 /// Where the row with this number stands.
 pub(crate) fn place_of(board: &Board, number: u32) -> u32
-    requires { number < length (opening_of board.now).rows }
+    requires one_part { HasOnePart board.now }
+    requires row { number < length (opening_of board.now).rows }
     ensures { HasRow board.now result }
 {
     board.layout().array(0, number)
@@ -33,8 +34,8 @@ pub(crate) fn enter_at(board: &Board, _number: u32, hand: &mut Hand, _place: u32
     ensures ready { IsReadyAt board.now hand.new _place }
 {
     enter(board, _number, hand);
-    board.load_root(hand);
-    board.load_slot_group(hand, 0, 0);
+    board.load_root(hand, 0);
+    board.load_slot_group(hand, 0, 0, 0);
 }
 
 // Takes the version lock of a record that was never changed.

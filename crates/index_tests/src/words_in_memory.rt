@@ -5,17 +5,17 @@ ghost use Rattle.word_layout.specs.Layout.{limits_of};
 use crate::boards::SMALL;
 use index_rule::offset_of;
 use std::process::Abort;
-use word_layout::{Layout, Limits};
+use word_layout::{Layout, Limits, Parts};
 
 // The most words that a processor takes from another one at once: 128 bytes.
 const LINE: usize = 16;
 
-// The layout of a small table for so many callers.
-fn layout_for(rt: &impl Abort, callers: u32) -> Layout
+// The layout of a small table for so many callers, with these parts.
+fn layout_for(rt: &impl Abort, callers: u32, parts: Parts) -> Layout
     ensures { (limits_of result).callers ≡ callers }
 {
     let limits = Limits { callers, ..SMALL };
-    let Ok(layout) = limits.layout() else {
+    let Ok(layout) = limits.layout_in(parts) else {
         panic!(rt; "the limits are kept");
     };
     layout
@@ -32,10 +32,16 @@ fn assert_alone(rt: &impl Abort, layout: &Layout, address: u32) {
 
 #[test]
 fn no_other_word_is_on_the_line_of_a_hot_one(rt: HostRuntime) {
-    for callers in [1, 4, 64] {
-        let layout = layout_for(&rt, callers);
+    for (callers, parts) in [
+        (1, Parts::whole()),
+        (4, Parts::even(2)),
+        (64, Parts::even(16)),
+    ] {
+        let layout = layout_for(&rt, callers, parts);
         assert_alone(&rt, &layout, layout.free_head());
-        assert_alone(&rt, &layout, layout.root());
+        for part in 0..layout.parts().count() {
+            assert_alone(&rt, &layout, layout.root(part));
+        }
         for caller in 0..callers {
             assert_alone(&rt, &layout, layout.epoch(caller));
         }
@@ -44,7 +50,7 @@ fn no_other_word_is_on_the_line_of_a_hot_one(rt: HostRuntime) {
 
 #[test]
 fn all_other_words_follow_without_gaps(rt: HostRuntime) {
-    let layout = layout_for(&rt, 4);
+    let layout = layout_for(&rt, 4, Parts::whole());
     let offsets = [0, 16, 32, 48, 64, 80, 96, 97, 98];
     for (address, offset) in offsets.iter().enumerate() {
         assert_eq!(rt; offset_of(&layout, address as u32), *offset, "at {address}");

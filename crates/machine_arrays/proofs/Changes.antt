@@ -8,7 +8,7 @@ use Rattle.index_machine.specs.Conditions.{Valid}
 use Rattle.index_machine.specs.Execution.{Execution, event}
 use Rattle.index_machine.specs.RebuildConditions.{HasKeysFrom, IsLateHeader, IsSized}
 use Rattle.index_machine.specs.Rows.{InArray, Unused, role}
-use Rattle.index_machine.specs.Words.{limits, word}
+use Rattle.index_machine.specs.Words.{shape, word}
 use Rattle.index_machine.specs.declared.events.Action.{Action}
 use Rattle.index_machine.specs.declared.events.Action.TheVariants.{Freeze, Install, LinkRow}
 use Rattle.index_machine.specs.declared.events.Action.TheVariants.{NewGroup, StoreHeader}
@@ -55,7 +55,7 @@ late_word_stays o t b (NewGroup h low high f) g which is never =
     other_header h g _ _ header.Pivot which (λ z e. subst IsLateHeader (sym e) is)
 late_word_stays o t b (Install (NextOf left) first low high) g which is never =
     other_header left g _ _ header.Next which (λ z e. subst IsLateHeader (sym e) is)
-late_word_stays o t b (Install (FirstSlot side) first low high) g which is never = refl
+late_word_stays o t b (Install (FirstSlot part side) first low high) g which is never = refl
 late_word_stays o t b (StoreHeader h at value) g which is never =
     other_header h g value _ at which (λ z e. never value
     (ap (λ (y : ℕ). StoreHeader y at value) z
@@ -99,12 +99,12 @@ left_step o t b d g valid never = record {
 pub begun_empty : BegunArraysAreEmpty
 begun_empty o b g low high f t valid =
     sym (keys_are o (event b (NewGroup g low high f) ∷ t) valid g [] (λ k at. ⊎_elim
-    (λ (z : role o (array_address (limits o) g 0) t ≡ InArray g k).
-    not_begun o t b (NewGroup g low high f) g k (array_address (limits o) g 0) z at
+    (λ (z : role o (array_address (shape o) g 0) t ≡ InArray g k).
+    not_begun o t b (NewGroup g low high f) g k (array_address (shape o) g 0) z at
     (low, high, f, refl))
-    (λ (z : (to : ℕ) × (NewGroup g low high f ≡ StoreRedirect g (array_address (limits o) g 0) k to)).
+    (λ (z : (to : ℕ) × (NewGroup g low high f ≡ StoreRedirect g (array_address (shape o) g 0) k to)).
     let bad = z.1 in cc)
-    (array_back o t b (NewGroup g low high f) (array_address (limits o) g 0) g k at)))
+    (array_back o t b (NewGroup g low high f) (array_address (shape o) g 0) g k at)))
 
 module _ (o : Opening) (b g p k to : ℕ) (t : Execution)
     (valid : Valid o (event b (StoreRedirect g p k to) ∷ t)) where
@@ -128,8 +128,8 @@ module _ (o : Opening) (b g p k to : ℕ) (t : Execution)
       sym valid.0.unused ∙ (ap (λ (q : ℕ). role o q t) valid.0.at ∙ at) in cc)
       (le_or_lt (length keys) valid.0.index)
 
-  new_place : p ≡ array_address (limits o) g (length keys)
-  new_place = valid.0.at ∙ ap (array_address (limits o) g) new_index
+  new_place : p ≡ array_address (shape o) g (length keys)
+  new_place = valid.0.at ∙ ap (array_address (shape o) g) new_index
 
   new_at : HasKeyAt o g (length keys) k T
   new_at = ap (λ (q : ℕ). role o q T) (sym new_place)
@@ -147,7 +147,7 @@ module _ (o : Opening) (b g p k to : ℕ) (t : Execution)
       let less : n < length keys = omega (arith, lt, many, other) in
       subst (λ (y : ℕ). HasKeyAt o g n y T) (sym (get_or-append keys (k ∷ []) 0 n less))
       (place_kept o t b (StoreRedirect g p k to) g (slice_index keys n)
-      (array_address (limits o) g n) valid.0 (λ z. let bad = z.3 in cc)
+      (array_address (shape o) g n) valid.0 (λ z. let bad = z.3 in cc)
       (at_index o g keys t (has_keys_now o t valid.1 g) n less)))
 
   none : (j : ℕ) → HasKeyAt o g (length (keys ++ (k ∷ []))) j T → ⊥
@@ -155,14 +155,14 @@ module _ (o : Opening) (b g p k to : ℕ) (t : Execution)
       let many = length-append keys (k ∷ []) in
       let end : ℕ = length (keys ++ (k ∷ [])) in
       ⊎_elim
-      (λ (z : role o (array_address (limits o) g end) t ≡ InArray g j).
+      (λ (z : role o (array_address (shape o) g end) t ≡ InArray g j).
       let m = before_has o t g (length keys) end j valid.1 z (omega (arith, many)) in
       at_end o g keys t (has_keys_now o t valid.1 g) m.0 m.1)
       (λ (z : (u : ℕ) × (StoreRedirect g p k to
-      ≡ StoreRedirect g (array_address (limits o) g end) j u)).
-      let same = one_index (limits o) g (length keys) end (sym new_place ∙ put_is z.1) in
+      ≡ StoreRedirect g (array_address (shape o) g end) j u)).
+      let same = one_index (shape o) g (length keys) end (sym new_place ∙ put_is z.1) in
       absurd (omega (arith, same, many)))
-      (array_back o t b (StoreRedirect g p k to) (array_address (limits o) g end) g j at)
+      (array_back o t b (StoreRedirect g p k to) (array_address (shape o) g end) g j at)
     where
       put_is : {q i u : ℕ} → StoreRedirect g p k to ≡ StoreRedirect g q i u → p ≡ q
       put_is e = cc

@@ -6,14 +6,16 @@ use Rattle.std.specs.Prelude.{slice_index}
 use mathlib.Core.Logic.{dite}
 use native.Mathlib.Decide.{ℕ_discrete}
 use Rattle.index_machine.proofs.Executions.{choice-other, choice-same}
+use Rattle.index_machine.proofs.Placing.{placed}
 use Rattle.index_machine.proofs.RepresentingAll.{represented}
 use Rattle.index_machine.specs.Conditions.{Valid}
 use Rattle.index_machine.specs.Execution.{Execution}
 use Rattle.index_machine.specs.RebuildConditions.{HasKeysFrom}
 use Rattle.index_machine.specs.Reaching.{stands_in}
-use Rattle.index_machine.specs.Sections.{IsKeeper, IsReading}
+use Rattle.index_machine.specs.Sections.{IsReading}
+use Rattle.index_machine.specs.Keepers.{IsGroupKeeper}
 use Rattle.index_machine.specs.Rows.{HeldBy, InArray, InBuffer, Role, Unused, role, role_key}
-use Rattle.index_machine.specs.Words.{limits}
+use Rattle.index_machine.specs.Words.{limits, shape}
 use Rattle.index_machine.specs.declared.opening.Opening.{Opening}
 use Rattle.machine_arrays.proofs.Lists.{at_end, at_index, at_same, one_key, one_list}
 use Rattle.machine_arrays.proofs.Opened.{one_index}
@@ -29,8 +31,8 @@ use Rattle.word_layout.specs.Addresses.{array_address}
 index_fits : (o : Opening) (t : Execution) (g i k : ℕ) → Valid o t → HasKeyAt o g i k t →
     i < (limits o).group_size
 index_fits o t g i k valid at =
-    let w = in_order o t valid g k (array_address (limits o) g i) at in
-    let same = one_index (limits o) g i w.index w.at in
+    let w = in_order o t valid g k (array_address (shape o) g i) at in
+    let same = one_index (shape o) g i w.index w.at in
     let lt = w.in_array in
     omega (arith, same, lt)
 
@@ -40,8 +42,8 @@ pub before_has : (o : Opening) (t : Execution) (g i j k : ℕ) → Valid o t →
 before_has o t g i j k valid at le = dite (ℕ_discrete j i)
     (λ (z : j ≡ i). (k, at_same o g j i k t z at))
     (λ (n : j ≢ i).
-    let w = in_order o t valid g k (array_address (limits o) g j) at in
-    let same = one_index (limits o) g j w.index w.at in
+    let w = in_order o t valid g k (array_address (shape o) g j) at in
+    let same = one_index (shape o) g j w.index w.at in
     let s = w.smaller i (omega (arith, le, n, same)) in
     (s.0, s.1))
 
@@ -67,13 +69,13 @@ none_behind : (o : Opening) (t : Execution) (g : ℕ) → Valid o t → (more i 
 none_behind o t g valid zero i j le none = refl
 none_behind o t g valid (suc more) i j le none = ⊎_elim
     (λ (z : (k : ℕ) × HasKeyAt o g j k t
-    × (key_in_array g (role o (array_address (limits o) g j) t) ≡ Some k)).
+    × (key_in_array g (role o (array_address (shape o) g j) t) ≡ Some k)).
     let m = before_has o t g i j z.0 valid z.1 le in absurd (none m.0 m.1))
-    (λ (z : ((k : ℕ) → role o (array_address (limits o) g j) t ≢ InArray g k)
-    × (key_in_array g (role o (array_address (limits o) g j) t) ≡ None)).
+    (λ (z : ((k : ℕ) → role o (array_address (shape o) g j) t ≢ InArray g k)
+    × (key_in_array g (role o (array_address (shape o) g j) t) ≡ None)).
     ap (λ (y : Option ℕ). behind_key y (keys_from o g (j + 1) more t)) z.1
     ∙ none_behind o t g valid more i (j + 1) (omega (arith, le)) none)
-    (key_or_none g (role o (array_address (limits o) g j) t))
+    (key_or_none g (role o (array_address (shape o) g j) t))
 
 has_from : (o : Opening) (t : Execution) (g : ℕ) → Valid o t → (more i : ℕ) →
     i + more ≡ (limits o).group_size → HasKeysFrom o g i (keys_from o g i more t) t
@@ -81,17 +83,17 @@ has_from o t g valid zero i e =
     λ k at. let lt = index_fits o t g i k valid at in absurd (omega (arith, e, lt))
 has_from o t g valid (suc more) i e = ⊎_elim
     (λ (z : (k : ℕ) × HasKeyAt o g i k t
-    × (key_in_array g (role o (array_address (limits o) g i) t) ≡ Some k)).
+    × (key_in_array g (role o (array_address (shape o) g i) t) ≡ Some k)).
     subst (λ (y : List ℕ). HasKeysFrom o g i y t)
     (sym (ap (λ (y : Option ℕ). behind_key y (keys_from o g (i + 1) more t)) z.2))
     (z.1, has_from o t g valid more (i + 1) (omega (arith, e))))
-    (λ (z : ((k : ℕ) → role o (array_address (limits o) g i) t ≢ InArray g k)
-    × (key_in_array g (role o (array_address (limits o) g i) t) ≡ None)).
+    (λ (z : ((k : ℕ) → role o (array_address (shape o) g i) t ≢ InArray g k)
+    × (key_in_array g (role o (array_address (shape o) g i) t) ≡ None)).
     subst (λ (y : List ℕ). HasKeysFrom o g i y t)
     (sym (ap (λ (y : Option ℕ). behind_key y (keys_from o g (i + 1) more t)) z.1
     ∙ none_behind o t g valid more i (i + 1) (omega arith) z.0))
     z.0)
-    (key_or_none g (role o (array_address (limits o) g i) t))
+    (key_or_none g (role o (array_address (shape o) g i) t))
 
 pub has_keys_now : (o : Opening) (t : Execution) → Valid o t → (g : ℕ) →
     HasKeysFrom o g 0 (array_keys o g t) t
@@ -192,13 +194,14 @@ pub keys_loaded : KeysOfListsMayBeLoaded
 keys_loaded o t valid c g index found walks lt e =
     let key : ℕ = slice_index (array_keys o g t) index in
     let at = stands_at o t g index valid lt in
-    let place : ℕ = array_address (limits o) g index in
+    let place : ℕ = array_address (shape o) g index in
     let is : found ≡ key = sym e ∙ (represented o t valid).keys place key (ap role_key at) in (
       record {
         allowed = ⊎_elim
             (λ (z : IsReading o c t × (stands_in c g t ≡ true)).
             inl (record { reading = z.0; there = inl (g, key, at, z.1) }))
-            (λ (z : IsKeeper o c). inr z) walks;
+            (λ (z : IsGroupKeeper o c g).
+            inr (inr (g, (placed o t valid).arrayed g key place at, z))) walks;
         found_word = e;
         says = ap role_key at ∙ ap (λ (y : ℕ). Some y) (sym is);
       },

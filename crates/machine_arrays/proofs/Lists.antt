@@ -5,7 +5,7 @@ use Rattle.std.specs.Prelude.{slice_index}
 use Rattle.index_machine.specs.Execution.{Execution}
 use Rattle.index_machine.specs.RebuildConditions.{HasKeysFrom}
 use Rattle.index_machine.specs.Rows.{InArray, role}
-use Rattle.index_machine.specs.Words.{limits}
+use Rattle.index_machine.specs.Words.{shape}
 use Rattle.index_machine.specs.declared.opening.Opening.{Opening}
 use Rattle.machine_arrays.specs.Arrays.{HasKeyAt}
 use Rattle.word_layout.specs.Addresses.{array_address}
@@ -16,7 +16,7 @@ one_key e = cc
 -- a key at an index is one at the same index
 pub at_same : (o : Opening) (g i j k : ℕ) (t : Execution) → i ≡ j → HasKeyAt o g i k t →
     HasKeyAt o g j k t
-at_same o g i j k t e at = ap (λ (y : ℕ). role o (array_address (limits o) g y) t) (sym e) ∙ at
+at_same o g i j k t e at = ap (λ (y : ℕ). role o (array_address (shape o) g y) t) (sym e) ∙ at
 
 -- ---- from the list to the places ----
 

@@ -1,33 +1,39 @@
--- The array of group 0 as the table is opened: it has the opening's rows, in their order.
-use Rattle.std.proofs.Common.{◌≡◌, ◌≢◌, ℕ, zero, suc, ◌+◌, ◌<◌, ◌≤◌, Some, None, Bool, [], ◌∷◌}
-use Rattle.std.proofs.Common.{cond, length, refl, sym, ap, ◌∙◌, subst, arith}
-use Rattle.std.proofs.Math.ListN.{get_or-map, length-map}
+-- The arrays as the table is opened: that of each group has the rows that the group answers for, in their order.
+use Rattle.std.proofs.Common.{◌≡◌, ◌≢◌, ℕ, zero, suc, ◌+◌, ◌^◌, ◌<◌, ◌≤◌, Some, None, Bool, true, false}
+use Rattle.std.proofs.Common.{List, [], ◌∷◌, cond, length, refl, sym, ap, ◌∙◌, subst, arith}
+use Rattle.std.specs.List.{AllByRecursion}
+use Rattle.std.specs.Prelude.{◌==◌, slice_index}
+use Rattle.std.proofs.lemmas.List.Kept.{AllPairs-from_increasing}
 use mathlib.Core.Logic.{dite}
 use native.Mathlib.Decide.{ℕ_discrete}
 use Rattle.index_machine.proofs.Executions.{choice-other, choice-same}
-use Rattle.index_machine.proofs.OpeningRows.{opening_role-array, opening_row-key, row_from-place}
-use Rattle.index_machine.proofs.Ranges.{range_in}
-use Rattle.index_machine.specs.OpeningRows.{keys_in, row_from}
-use Rattle.index_machine.specs.Openings.{greatest_key, opening_group}
+use Rattle.index_machine.proofs.OfParts.{group_exists, key_in_part}
+use Rattle.index_machine.proofs.OpeningGroups.{opening_keys-group, opening_keys-rise}
+use Rattle.index_machine.proofs.OpeningRows.{GoesOn, first_group_for-monotone, from_all}
+use Rattle.index_machine.proofs.OpeningRows.{opening_role-array, opening_row-key, opening_row-one}
+use Rattle.index_machine.proofs.OpeningRows.{seats_apart}
+use Rattle.index_machine.specs.Keepers.{IsKeyIn, part_of}
+use Rattle.index_machine.specs.OpeningRows.{first_group_for, index_behind, keys_for, opening_keys}
+use Rattle.index_machine.specs.OpeningRows.{opening_row, row_from}
+use Rattle.index_machine.specs.Openings.{opening_group}
 use Rattle.index_machine.specs.RebuildConditions.{HasKeysFrom, IsSized}
 use Rattle.index_machine.specs.Rows.{InArray, role, role_of_row}
-use Rattle.index_machine.specs.Words.{limits}
+use Rattle.index_machine.specs.Words.{shape}
 use Rattle.index_machine.specs.declared.opening.Opening.{Opening}
-use Rattle.line_window.specs.Line.{error_of}
 use Rattle.machine_arrays.proofs.Lists.{has_keys}
 use Rattle.machine_arrays.specs.Arrays.{HasKeyAt, IsBehindSmallerKeys}
-use Rattle.map_model.proofs.Places.{rising-at}
-use Rattle.map_model.specs.Map.{Map, key_at}
+use Rattle.map_model.specs.Map.{Map}
 use Rattle.word_layout.specs.Addresses.{array_address}
-use Rattle.word_layout.specs.declared.limits.Limits.{Limits}
+use Rattle.word_layout.specs.Parts.{greatest_key}
+use Rattle.word_layout.specs.Shape.{Shape, group_total}
 
 -- ---- addresses ----
 
 -- places with different indices are different
-pub one_index : (l : Limits) (g i j : ℕ) → array_address l g i ≡ array_address l g j → i ≡ j
-one_index l g i j e = omega (arith, e)
+pub one_index : (s : Shape) (g i j : ℕ) → array_address s g i ≡ array_address s g j → i ≡ j
+one_index s g i j e = omega (arith, e)
 
--- ---- rows ----
+-- ---- rows that go on ----
 
 none_row : {X : Type 0} {r : ℕ × ℕ} → None ≡ Some r → X
 none_row e = cc
@@ -35,58 +41,237 @@ none_row e = cc
 some_row : {r q : ℕ × ℕ} → Some r ≡ Some q → r ≡ q
 some_row e = cc
 
--- a row stands at its index
-row_at : (l : Limits) (i : ℕ) (rows : Map) (n : ℕ) → n < length rows →
-    (x : ℕ) × (row_from l i rows (array_address l 0 (i + n)) ≡ Some (key_at rows n, x))
-row_at l i [] n lt = absurd (omega (arith, lt))
-row_at l i (q ∷ rs) zero lt = (
-  q.1,
-  choice-same (array_address l 0 i) (array_address l 0 (i + zero)) (Some q)
-      (row_from l (i + 1) rs (array_address l 0 (i + zero)))
-      (ap (λ (y : ℕ). array_address l 0 y) (omega arith)),
-)
-row_at l i (q ∷ rs) (suc n) lt =
-    let later = row_at l (i + 1) rs n (omega (arith, lt)) in
-    let same : i + suc n ≡ i + 1 + n = omega arith in
-    let other : array_address l 0 i ≢ array_address l 0 (i + suc n) =
-    λ z. let bad = one_index l 0 i (i + suc n) z in absurd (omega (arith, bad)) in (
-      later.0,
-      choice-other (array_address l 0 i) (array_address l 0 (i + suc n)) (Some q)
-          (row_from l (i + 1) rs (array_address l 0 (i + suc n))) other
-          ∙ (ap (λ (y : ℕ). row_from l (i + 1) rs (array_address l 0 y)) same ∙ later.1),
-    )
+goes_on : (s : Shape) (last : ℕ) (q : ℕ × ℕ) (rows : Map) → GoesOn s last (q ∷ rows) →
+    GoesOn s (first_group_for s q.0) rows
+goes_on s last q rows on = record {
+  rising = on.rising.1;
+  behind = from_all (λ (r : ℕ × ℕ). q.0 < r.0)
+      (λ (r : ℕ × ℕ). first_group_for s q.0 ≤ first_group_for s r.0) rows
+      (λ r less. first_group_for-monotone s q.0 r.0 (omega (arith, less))) on.rising.0;
+}
 
--- ---- group 0 ----
+goes_on-first : (o : Opening) → GoesOn (shape o) 0 o.rows
+goes_on-first o = record {
+  rising = o.rising;
+  behind = from_all (λ (r : ℕ × ℕ). r.0 < 2 ^ 64)
+      (λ (r : ℕ × ℕ). 0 ≤ first_group_for (shape o) r.0) o.rows (λ r _. omega arith) o.keys;
+}
+
+-- the next row's index is no greater than what is filled so far
+index_most : (last filled g : ℕ) → index_behind last filled g ≤ filled
+index_most last filled g = dite (ℕ_discrete g last)
+    (λ (z : g ≡ last). let is = choice-same g last filled 0 z in omega (arith, is))
+    (λ (n : g ≢ last). let is = choice-other g last filled 0 n in omega (arith, is))
+
+-- an array is filled from index 0 on
+index_first : (g : ℕ) → index_behind 0 0 g ≡ 0
+index_first g = go (g == 0)
+  where
+    go : (w : Bool) → cond {A = ℕ} w 0 0 ≡ 0
+    go true = refl
+    go false = refl
+
+-- a group has no more keys than there are rows
+few_for : (s : Shape) (g : ℕ) (rows : Map) → length (keys_for s g rows) ≤ length rows
+few_for s g [] = omega arith
+few_for s g (q ∷ rs) =
+    let rest : List ℕ = keys_for s g rs in
+    let few = few_for s g rs in
+    dite (ℕ_discrete (first_group_for s q.0) g)
+    (λ (z : first_group_for s q.0 ≡ g).
+    let is = ap length (choice-same (first_group_for s q.0) g (q.0 ∷ rest) rest z) in
+    omega (arith, is, few))
+    (λ (n : first_group_for s q.0 ≢ g).
+    let is = ap length (choice-other (first_group_for s q.0) g (q.0 ∷ rest) rest n) in
+    omega (arith, is, few))
+
+-- and none of rows that go on behind it
+none_for : (s : Shape) (last g : ℕ) (rows : Map) → g < last →
+    AllByRecursion (λ (r : ℕ × ℕ). last ≤ first_group_for s r.0) rows → keys_for s g rows ≡ []
+none_for s last g [] lt all = refl
+none_for s last g (q ∷ rs) lt all =
+    let first = all.0 in
+    choice-other (first_group_for s q.0) g (q.0 ∷ keys_for s g rs) (keys_for s g rs)
+    (λ z. absurd (omega (arith, lt, first, z)))
+    ∙ none_for s last g rs lt all.1
+
+-- ---- where a row stands ----
+
+-- where the first of the rows stands, and where those behind it do
+module _ (s : Shape) (last filled g : ℕ) (q : ℕ × ℕ) (rs : Map) (on : GoesOn s last (q ∷ rs))
+    (fits : filled + length (q ∷ rs) ≤ s.limits.group_size) where
+  abbrev group : ℕ
+  group = first_group_for s q.0
+
+  abbrev i : ℕ
+  i = index_behind last filled group
+
+  abbrev base : ℕ
+  base = index_behind last filled g
+
+  abbrev place : ℕ → ℕ
+  place n = array_address s g (base + n)
+
+  abbrev Each : List ℕ → Type 0
+  Each keys = (n : ℕ) → n < length keys →
+      (x : ℕ) × (row_from s last filled (q ∷ rs) (place n) ≡ Some (slice_index keys n, x))
+
+  abbrev EachBehind : List ℕ → Type 0
+  EachBehind keys = (n : ℕ) → n < length keys →
+      (x : ℕ) × (row_from s group (i + 1) rs (array_address s g (index_behind group (i + 1) g + n))
+      ≡ Some (slice_index keys n, x))
+
+  -- a row behind the first, which stands elsewhere
+  behind : (n j k : ℕ) → array_address s group i ≢ place n → base + n ≡ j →
+      (x : ℕ) × (row_from s group (i + 1) rs (array_address s g j) ≡ Some (k, x)) →
+      (x : ℕ) × (row_from s last filled (q ∷ rs) (place n) ≡ Some (k, x))
+  behind n j k other same row = (
+    row.0,
+    choice-other (array_address s group i) (place n) (Some q) (row_from s group (i + 1) rs (place n))
+        other
+        ∙ ap (λ (y : ℕ). row_from s group (i + 1) rs (array_address s g y)) same
+        ∙ row.1,
+  )
+
+  -- the first is the group's
+  here : group ≡ g → EachBehind (keys_for s g rs) → Each (q.0 ∷ keys_for s g rs)
+  here z rest zero lt = (
+    q.1,
+    choice-same (array_address s group i) (place zero) (Some q) (row_from s group (i + 1) rs (place zero))
+        (ap (λ (y : ℕ). array_address s y (index_behind last filled y)) z
+        ∙ ap (array_address s g) (omega arith)),
+  )
+  here z rest (suc m) lt =
+      let first : i ≡ base = ap (index_behind last filled) z in
+      let next = choice-same g group (i + 1) 0 (sym z) in
+      let other : array_address s group i ≢ place (suc m) =
+      λ e. let bad = one_index s g base (base + suc m)
+      (ap (λ (y : ℕ). array_address s y (index_behind last filled y)) (sym z) ∙ e) in
+      omega (arith, bad)
+      in
+      behind (suc m) (index_behind group (i + 1) g + m) (slice_index (keys_for s g rs) m) other
+      (omega (arith, first, next)) (rest m (omega (arith, lt)))
+
+  -- the first is another group's
+  later : group ≢ g → EachBehind (keys_for s g rs) → Each (keys_for s g rs)
+  later differ rest n lt = dite (ℕ_discrete g last)
+      (λ (z : g ≡ last).
+      let ahead = on.behind.0 in
+      let none = ap length (none_for s group g rs (omega (arith, z, ahead, differ))
+      (goes_on s last q rs on).behind) in
+      absurd (omega (arith, none, lt)))
+      (λ (apart : g ≢ last).
+      let now = choice-other g last filled 0 apart in
+      let next = choice-other g group (i + 1) 0 (λ z. differ (sym z)) in
+      let few = few_for s g rs in
+      let most = index_most last filled group in
+      behind n (index_behind group (i + 1) g + n) (slice_index (keys_for s g rs) n)
+      (λ e. differ (seats_apart s group g i (base + n) (omega (arith, fits, most))
+      (omega (arith, fits, now, few, lt)) e).0)
+      (omega (arith, now, next)) (rest n lt))
+
+  rows_step : EachBehind (keys_for s g rs) → Each (keys_for s g (q ∷ rs))
+  rows_step rest = dite (ℕ_discrete group g)
+      (λ (z : group ≡ g).
+      subst Each (sym (choice-same group g (q.0 ∷ keys_for s g rs) (keys_for s g rs) z)) (here z rest))
+      (λ (n : group ≢ g).
+      subst Each (sym (choice-other group g (q.0 ∷ keys_for s g rs) (keys_for s g rs) n))
+      (later n rest))
+
+-- the row of each of a group's keys stands at the index of the key, behind what is filled so far
+row_at : (s : Shape) (last filled g : ℕ) (rows : Map) → GoesOn s last rows →
+    filled + length rows ≤ s.limits.group_size → (n : ℕ) → n < length (keys_for s g rows) →
+    (x : ℕ) × (row_from s last filled rows (array_address s g (index_behind last filled g + n))
+    ≡ Some (slice_index (keys_for s g rows) n, x))
+row_at s last filled g [] on fits = λ n lt. absurd (omega (arith, lt))
+row_at s last filled g (q ∷ rs) on fits =
+    let i : ℕ = index_behind last filled (first_group_for s q.0) in
+    let most = index_most last filled (first_group_for s q.0) in
+    rows_step s last filled g q rs on fits
+    (row_at s (first_group_for s q.0) (i + 1) g rs (goes_on s last q rs on) (omega (arith, fits, most)))
+
+-- a row's key is one of its group's
+key_of_row : (s : Shape) (last filled : ℕ) (rows : Map) (place k x : ℕ) →
+    row_from s last filled rows place ≡ Some (k, x) →
+    (n : ℕ) × (n < length (keys_for s (first_group_for s k) rows))
+    × (slice_index (keys_for s (first_group_for s k) rows) n ≡ k)
+key_of_row s last filled [] place k x e = none_row e
+key_of_row s last filled (q ∷ rs) place k x e =
+    go (array_address s group (index_behind last filled group) == place) e
+    (key_of_row s group (index_behind last filled group + 1) rs place k x)
+  where
+    group : ℕ
+    group = first_group_for s q.0
+
+    g : ℕ
+    g = first_group_for s k
+
+    Has : List ℕ → Type 0
+    Has keys = (n : ℕ) × (n < length keys) × (slice_index keys n ≡ k)
+
+    kept : Has (keys_for s g rs) → Has (keys_for s g (q ∷ rs))
+    kept has = dite (ℕ_discrete group g)
+        (λ (z : group ≡ g).
+        subst Has (sym (choice-same group g (q.0 ∷ keys_for s g rs) (keys_for s g rs) z))
+        (let lt = has.1 in (suc has.0, omega (arith, lt), has.2)))
+        (λ (n : group ≢ g).
+        subst Has (sym (choice-other group g (q.0 ∷ keys_for s g rs) (keys_for s g rs) n)) has)
+
+    go : (w : Bool) →
+        cond w (Some q) (row_from s group (index_behind last filled group + 1) rs place)
+        ≡ Some (k, x) →
+        (row_from s group (index_behind last filled group + 1) rs place ≡ Some (k, x) →
+        Has (keys_for s g rs)) →
+        Has (keys_for s g (q ∷ rs))
+    go true e rest =
+        let same : q.0 ≡ k = ap (λ (r : ℕ × ℕ). r.0) (some_row e) in
+        subst Has
+        (sym (choice-same group g (q.0 ∷ keys_for s g rs) (keys_for s g rs)
+        (ap (first_group_for s) same)))
+        (0, omega arith, same)
+    go false e rest = kept (rest e)
+
+-- ---- the arrays ----
 
 -- what stands in an array at the opening
 pub record IsOpenedAt (o : Opening) (g k p : ℕ) : Type 0 where
-  pub first : g ≡ 0
   pub index : ℕ
-  pub below : index < length o.rows
-  pub at : p ≡ array_address (limits o) g index
-  pub is : key_at o.rows index ≡ k
+  pub below : index < length (opening_keys o g)
+  pub at : p ≡ array_address (shape o) g index
+  pub is : slice_index (opening_keys o g) index ≡ k
 
-opened_at : (o : Opening) (n : ℕ) → n < length o.rows → HasKeyAt o 0 n (key_at o.rows n) []
-opened_at o n lt =
-    let row = row_at (limits o) 0 o.rows n lt in
-    ap (λ (y : ℕ). role o (array_address (limits o) 0 y) []) (omega arith) ∙ ap role_of_row row.1
+-- the row of a group's key
+opened_row : (o : Opening) (g n : ℕ) → n < length (opening_keys o g) →
+    (x : ℕ) × (opening_row o (array_address (shape o) g n)
+    ≡ Some (slice_index (opening_keys o g) n, x))
+opened_row o g n lt =
+    let few = o.few in
+    let row = row_at (shape o) 0 0 g o.rows (goes_on-first o) (omega (arith, few)) n lt in
+    let first = index_first g in
+    let same : n ≡ index_behind 0 0 g + n = omega (arith, first) in
+    (row.0, ap (λ (y : ℕ). opening_row o (array_address (shape o) g y)) same ∙ row.1)
+
+opened_at : (o : Opening) (g n : ℕ) → n < length (opening_keys o g) →
+    HasKeyAt o g n (slice_index (opening_keys o g) n) []
+opened_at o g n lt =
+    let key : ℕ = slice_index (opening_keys o g) n in
+    ap (role_of_row (shape o)) (opened_row o g n lt).1
+    ∙ ap (λ (y : ℕ). InArray y key) (opening_keys-group o g n lt).0
 
 pub opened_index : (o : Opening) (g k p : ℕ) → role o p [] ≡ InArray g k → IsOpenedAt o g k p
 opened_index o g k p e =
     let a = opening_role-array o p g k e in
-    let w = row_from-place (limits o) 0 o.rows p (k, a.1) a.2 in
-    let below = w.2 in
-    let lt : w.0 < length o.rows = omega (arith, below) in
-    let row = row_at (limits o) 0 o.rows w.0 lt in
-    let here : row_from (limits o) 0 o.rows (array_address (limits o) 0 (0 + w.0)) ≡ Some (k, a.1) =
-    ap (λ (y : ℕ). row_from (limits o) 0 o.rows (array_address (limits o) 0 y)) (omega arith)
-    ∙ (ap (row_from (limits o) 0 o.rows) (sym w.3) ∙ a.2) in
+    let found = key_of_row (shape o) 0 0 o.rows p k a.1 a.2 in
+    let w = subst (λ (y : ℕ). (n : ℕ) × (n < length (opening_keys o y))
+    × (slice_index (opening_keys o y) n ≡ k)) (sym a.0) found in
+    let row = opened_row o g w.0 w.1 in
+    let here : opening_row o (array_address (shape o) g w.0) ≡ Some (k, row.0) =
+    row.1 ∙ ap (λ (y : ℕ). Some (y, row.0)) w.2 in
     record {
-      first = a.0;
       index = w.0;
-      below = lt;
-      at = w.3 ∙ ap (λ (y : ℕ). array_address (limits o) y w.0) (sym a.0);
-      is = ap (λ (r : ℕ × ℕ). r.0) (some_row (sym row.1 ∙ here));
+      below = w.1;
+      at = opening_row-one o p (array_address (shape o) g w.0) k a.1 row.0 a.2 here;
+      is = w.2;
     }
 
 -- the places are in order
@@ -95,66 +280,56 @@ pub opened_in_order : (o : Opening) (g k p : ℕ) → role o p [] ≡ InArray g 
 opened_in_order o g k p e =
     let w = opened_index o g k p e in
     let few = o.few in
+    let most = few_for (shape o) g o.rows in
     let below = w.below in
     record {
       index = w.index;
-      in_array = omega arith;
+      in_array = omega (arith, few, most, below);
       at = w.at;
       smaller = λ i lt.
-          let up = rising-at o.rows i w.index o.rising lt w.below in
+          let up = AllPairs-from_increasing (opening_keys o g) (opening_keys-rise o g).rising i w.index 0
+          lt w.below in
           let is = w.is in (
-            key_at o.rows i,
-            subst (λ (y : ℕ). HasKeyAt o y i (key_at o.rows i) []) (sym w.first)
-                (opened_at o i (omega (arith, lt, below))),
+            slice_index (opening_keys o g) i,
+            opened_at o g i (omega (arith, lt, below)),
             omega (arith, up, is),
           );
     }
 
--- they are keys, in a group of the table
+-- they are keys of the group's part, in a group of the table
 pub opened_key : (o : Opening) (g k p : ℕ) → role o p [] ≡ InArray g k →
-    (g < (limits o).groups) × (k ≤ greatest_key)
+    (g < group_total (shape o)) × (k ≤ greatest_key) × IsKeyIn o (part_of o g) k
 opened_key o g k p e =
     let a = opening_role-array o p g k e in
-    let first = a.0 in
-    let many = o.layout.kept.least_groups in
     let key = opening_row-key o p k a.1 a.2 in
-    (omega (arith, first, many), omega (arith, key))
+    let small : k ≤ greatest_key = omega (arith, key) in
+    let exists = group_exists o [] k tt small in (
+      subst (λ (y : ℕ). y < group_total (shape o)) (sym a.0) exists,
+      small,
+      subst (λ (y : ℕ). IsKeyIn o (part_of o y) k) (sym a.0) (key_in_part o [] k tt exists),
+    )
 
 -- for which this group answers
 pub opened_owned : (o : Opening) (g k p : ℕ) → role o p [] ≡ InArray g k → opening_group o k ≡ g
-opened_owned o g k p e =
-    ap (λ (y : Bool). cond y 0 (limits o).groups)
-    (range_in 0 greatest_key k (omega arith) (opened_key o g k p e).1)
-    ∙ sym (opening_role-array o p g k e).0
+opened_owned o g k p e = sym (opening_role-array o p g k e).0
 
 -- ---- sizes ----
 
-opened_keys : (o : Opening) → HasKeysFrom o 0 0 (keys_in o.rows) []
-opened_keys o = has_keys o 0 (keys_in o.rows) []
-    (λ n lt.
-    let many = length-map o.rows (λ (row : ℕ × ℕ). row.0) in
-    subst (λ (y : ℕ). HasKeyAt o 0 n y [])
-    (sym (get_or-map (λ (row : ℕ × ℕ). row.0) o.rows n (0, 0)))
-    (opened_at o n (omega (arith, lt, many))))
+opened_keys : (o : Opening) (g : ℕ) → HasKeysFrom o g 0 (opening_keys o g) []
+opened_keys o g = has_keys o g (opening_keys o g) []
+    (λ n lt. opened_at o g n lt)
     (λ k at.
-    let many = length-map o.rows (λ (row : ℕ × ℕ). row.0) in
-    let w = opened_index o 0 k (array_address (limits o) 0 (length (keys_in o.rows))) at in
+    let many : ℕ = length (opening_keys o g) in
+    let w = opened_index o g k (array_address (shape o) g many) at in
     let below = w.below in
-    let same = one_index (limits o) 0 (length (keys_in o.rows)) w.index w.at in
-    absurd (omega (arith, many, below, same)))
+    let same = one_index (shape o) g many w.index w.at in
+    absurd (omega (arith, below, same)))
 
 -- the words are those of the keys of each array
 pub opened_sized : (o : Opening) (g : ℕ) → IsSized o g []
-opened_sized o g = dite (ℕ_discrete g 0)
-    (λ (z : g ≡ 0). subst (λ (y : ℕ). IsSized o y []) (sym z) (record {
-      keys = keys_in o.rows;
-      array = opened_keys o;
-      size = sym (length-map o.rows (λ (row : ℕ × ℕ). row.0));
-      error = refl;
-    }))
-    (λ (n : g ≢ 0). record {
-      keys = [];
-      array = λ k at. n (opened_index o g k (array_address (limits o) g 0) at).first;
-      size = choice-other g 0 (length o.rows) 0 n;
-      error = choice-other g 0 (error_of (keys_in o.rows)) 0 n;
-    })
+opened_sized o g = record {
+  keys = opening_keys o g;
+  array = opened_keys o g;
+  size = refl;
+  error = refl;
+}

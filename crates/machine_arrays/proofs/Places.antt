@@ -1,10 +1,12 @@
 -- Arrays are filled from index 0 on, each place behind smaller keys.
 use Rattle.std.proofs.Common.{◌≡◌, ℕ, ⊎_elim, [], ◌∷◌, sym, ap, ◌∙◌, arith}
 use Rattle.index_machine.proofs.Executions.{choice-same}
+use Rattle.index_machine.proofs.OfParts.{key_most, successor_exists, successor_in_part}
+use Rattle.index_machine.specs.Keepers.{part_of}
 use Rattle.index_machine.specs.Conditions.{Allowed}
 use Rattle.index_machine.specs.Execution.{Execution, event}
 use Rattle.index_machine.specs.Rows.{InArray, InBuffer, Unused, emptied, role, role_key}
-use Rattle.index_machine.specs.Words.{limits}
+use Rattle.index_machine.specs.Words.{shape}
 use Rattle.index_machine.specs.declared.events.Action.{Action}
 use Rattle.index_machine.specs.declared.events.Action.TheVariants.{NewGroup, Retire, StoreRedirect}
 use Rattle.index_machine.specs.declared.opening.Opening.{Opening}
@@ -14,7 +16,6 @@ use Rattle.machine_arrays.specs.Arrays.{ArraysAreFilledInOrder, IsBehindSmallerK
 use Rattle.machine_arrays.specs.Arrays.{KeysOfArraysAreKeys, KeysOfArraysRise}
 use Rattle.machine_barriers.proofs.Reaches.{may_as}
 use Rattle.machine_buffers.specs.Groups.{Begins}
-use Rattle.machine_chain.proofs.NewGroups.{keys_hold}
 use Rattle.machine_readers.proofs.Roles.{EndsRole, array_back, role_stays}
 use Rattle.word_layout.specs.Addresses.{array_address}
 
@@ -62,7 +63,7 @@ in_order_step o t b d may old g k p e = ⊎_elim
       at = w.at;
       smaller = λ i lt. let s = w.smaller i lt in (
         s.0,
-        place_kept o t b d g s.0 (array_address (limits o) g i) may (not_begun o t b d g k p z e) s.1,
+        place_kept o t b d g s.0 (array_address (shape o) g i) may (not_begun o t b d g k p z e) s.1,
         s.2,
       );
     })
@@ -75,7 +76,7 @@ in_order_step o t b d may old g k p e = ⊎_elim
       at = m.at;
       smaller = λ i lt. let s = m.filled i lt in (
         s.0,
-        place_kept o t b d g s.0 (array_address (limits o) g i) may (no_beginning z.0 z.1) s.1,
+        place_kept o t b d g s.0 (array_address (shape o) g i) may (no_beginning z.0 z.1) s.1,
         s.2,
       );
     })
@@ -92,8 +93,8 @@ in_order o (x ∷ t) valid g k p e =
 
 pub keys_rise : KeysOfArraysRise
 keys_rise o t valid g i j k m lt a b =
-    let w = in_order o t valid g m (array_address (limits o) g j) b in
-    let same : j ≡ w.index = one_index (limits o) g j w.index w.at in
+    let w = in_order o t valid g m (array_address (shape o) g j) b in
+    let same : j ≡ w.index = one_index (shape o) g j w.index w.at in
     let s = w.smaller i (omega (arith, lt, same)) in
     let is : k ≡ s.0 = one_key (sym a ∙ s.1) in
     let less = s.2 in
@@ -107,6 +108,6 @@ are_keys o (x ∷ t) valid g k p e = ⊎_elim
     (λ (z : role o p t ≡ InArray g k). are_keys o t valid.1 g k p z)
     (λ (z : (to : ℕ) × (x.action ≡ StoreRedirect g p k to)).
     let m = may_as o t x.by x.action (StoreRedirect g p k z.0) z.1 valid.0 in
-    let new = (keys_hold o t valid.1).new k g m.belongs in
-    (new.1, new.0))
+    let mine = successor_in_part o t k g valid.1 m.belongs in
+    (successor_exists o t k g valid.1 m.belongs, key_most o (part_of o g) k mine, mine))
     (array_back o t x.by x.action p g k e)

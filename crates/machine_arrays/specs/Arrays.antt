@@ -6,11 +6,13 @@ use Rattle.std.specs.Prelude.{◌≡◌, ◌≢◌, ◌↔◌, ℕ, zero, suc, �
 use Rattle.std.specs.Prelude.{Some, None, List, [], ◌∷◌, length, slice_index}
 use Rattle.word_layout.specs.declared.places.Part.TheVariants as part
 use Rattle.word_layout.specs.Addresses.{array_address}
+use Rattle.word_layout.specs.Parts.{greatest_key}
 use Rattle.word_layout.specs.Words.{PlaceWord}
+use Rattle.word_layout.specs.Shape.{group_total}
 use Rattle.index_machine.specs.declared.opening.Opening.{Opening}
 use Rattle.index_machine.specs.Execution.{Execution}
-use Rattle.index_machine.specs.Words.{limits, word}
-use Rattle.index_machine.specs.Openings.{greatest_key}
+use Rattle.index_machine.specs.Words.{limits, shape, word}
+use Rattle.index_machine.specs.Keepers.{IsKeyIn, part_of}
 use Rattle.index_machine.specs.Rows.{InArray, Role, role}
 use Rattle.index_machine.specs.RecordConditions.{MayLoadKey, MayWalk}
 use Rattle.index_machine.specs.RebuildConditions.{HasKeysFrom}
@@ -20,13 +22,13 @@ use Rattle.index_machine.specs.Conditions.{Valid}
 
 -- the place with this index of the group's array has this key
 abbrev pub HasKeyAt : Opening → ℕ → ℕ → ℕ → Execution → Type 0
-HasKeyAt o group index k t = role o (array_address (limits o) group index) t ≡ InArray group k
+HasKeyAt o group index k t = role o (array_address (shape o) group index) t ≡ InArray group k
 
 -- the place has an index in the group's array, and all places before it have smaller keys
 pub record IsBehindSmallerKeys (o : Opening) (group k place : ℕ) (t : Execution) : Type 0 where
   pub index : ℕ
   pub in_array : index < (limits o).group_size
-  pub at : place ≡ array_address (limits o) group index
+  pub at : place ≡ array_address (shape o) group index
   pub smaller : (i : ℕ) → i < index → (j : ℕ) × HasKeyAt o group i j t × (j < k)
 
 -- ---- lists ----
@@ -45,7 +47,7 @@ behind_key (Some k) keys = k ∷ keys
 abbrev pub keys_from : Opening → ℕ → ℕ → ℕ → Execution → List ℕ
 keys_from o group index zero t = []
 keys_from o group index (suc more) t =
-    behind_key (key_in_array group (role o (array_address (limits o) group index) t))
+    behind_key (key_in_array group (role o (array_address (shape o) group index) t))
     (keys_from o group (index + 1) more t)
 
 -- the keys that stand in the group's array, by their indices
@@ -57,7 +59,7 @@ pub record IsWholeArray (o : Opening) (group : ℕ) (keys : List ℕ) (t : Execu
   pub stands : (index : ℕ) → index < length keys →
       HasKeyAt o group index (slice_index keys index) t
   pub whole : (k place : ℕ) → role o place t ≡ InArray group k →
-      (index : ℕ) × (index < length keys) × (place ≡ array_address (limits o) group index)
+      (index : ℕ) × (index < length keys) × (place ≡ array_address (shape o) group index)
       × (slice_index keys index ≡ k)
 
 -- at this index of the list the keys from one to another would stand: a smaller key is before it, if there is
@@ -80,11 +82,12 @@ KeysOfArraysRise =
     (o : Opening) (t : Execution) → Valid o t → (group i j k m : ℕ) → i < j →
     HasKeyAt o group i k t → HasKeyAt o group j m t → k < m
 
--- what stands in an array is a key, in a group of the table
+-- what stands in an array is a key of the group's part, in a group of the table
 abbrev pub KeysOfArraysAreKeys : Type 0
 KeysOfArraysAreKeys =
     (o : Opening) (t : Execution) → Valid o t → (group k place : ℕ) →
-    role o place t ≡ InArray group k → (group < (limits o).groups) × (k ≤ greatest_key)
+    role o place t ≡ InArray group k →
+    (group < group_total (shape o)) × (k ≤ greatest_key) × IsKeyIn o (part_of o group) k
 
 -- ---- the laws of lists ----
 
@@ -124,6 +127,6 @@ abbrev pub KeysOfListsMayBeLoaded : Type 0
 KeysOfListsMayBeLoaded =
     (o : Opening) (t : Execution) → Valid o t → (hand group index found : ℕ) →
     MayWalk o hand group t → index < length (array_keys o group t) →
-    word o t (PlaceWord (array_address (limits o) group index) part.Key) ≡ found →
-    MayLoadKey o hand (array_address (limits o) group index) found t
+    word o t (PlaceWord (array_address (shape o) group index) part.Key) ≡ found →
+    MayLoadKey o hand (array_address (shape o) group index) found t
     × (found ≡ slice_index (array_keys o group t) index)

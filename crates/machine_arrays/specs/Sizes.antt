@@ -16,7 +16,8 @@ use Rattle.index_machine.specs.KeyRanges.{group_of}
 use Rattle.index_machine.specs.Permissions.{IsReplaced}
 use Rattle.index_machine.specs.Reaching.{stands_in}
 use Rattle.index_machine.specs.Rows.{InArray, role}
-use Rattle.index_machine.specs.Sections.{IsCaller, IsKeeper, StaysInside}
+use Rattle.index_machine.specs.Sections.{IsCaller, StaysInside}
+use Rattle.index_machine.specs.Keepers.{IsGroupKeeper}
 use Rattle.index_machine.specs.RebuildConditions.{IsLateHeader, IsSized}
 use Rattle.index_machine.specs.Conditions.{Allowed, Valid}
 use Rattle.machine_arrays.specs.Arrays.{array_keys}
@@ -104,11 +105,11 @@ ArraysStayUntilChanged =
     (o : Opening) (group : ℕ) (newer t : Execution) → Valid o (newer ++ t) →
     ArrayIsLeft group newer → HasSameArray o group t (newer ++ t)
 
--- a keeper alone changes it
+-- the keeper of the group's part alone changes it
 abbrev pub KeepersAloneChangeArrays : Type 0
 KeepersAloneChangeArrays =
     (o : Opening) (t : Execution) (by group : ℕ) (action : Action) → Allowed o t by action →
-    ChangesArray group action → IsKeeper o by
+    ChangesArray group action → IsGroupKeeper o by group
 
 -- an array is empty where its group was just begun
 abbrev pub BegunArraysAreEmpty : Type 0

@@ -21,7 +21,7 @@ pub fn keys_of_arrays_rise()
     ensures { KeysOfArraysRise }
 {}
 
-/// What stands in an array is a key, in a group of the table.
+/// What stands in an array is a key of the group's part, in a group of the table.
 pub fn keys_of_arrays_are_keys()
     ensures { KeysOfArraysAreKeys }
 {}
@@ -107,7 +107,7 @@ pub fn arrays_stay_until_changed()
     ensures { ArraysStayUntilChanged }
 {}
 
-/// A keeper alone changes an array.
+/// The keeper of the group's part alone changes an array.
 pub fn keepers_alone_change_arrays()
     ensures { KeepersAloneChangeArrays }
 {}

@@ -95,18 +95,18 @@ old_before o f t b g d may shut e = e
 -- a slot of the root that names an old group named it before
 seen_back : (o : Opening) (f : ℕ) (t : Execution) (b g c : ℕ) (d : Action) → Valid o t →
     Allowed o t b d → IsShutForOldGroups f o t → phase g t ≡ Opened f → IsCaller o c →
-    (side i : ℕ) → SeesSlot c side i (event b d ∷ t) → slot o side i (event b d ∷ t) ≡ g →
+    (part side i : ℕ) → SeesSlot c part side i (event b d ∷ t) → slot o part side i (event b d ∷ t) ≡ g →
     ReliesOnOld o f c t × (crossings c (event b d ∷ t) ≡ crossings c t)
-seen_back o f t b g c d valid may shut at is side i s e =
+seen_back o f t b g c d valid may shut at is part side i s e =
     let before = named_back o t b d may g f at
-    (λ k z. shut.unowned k (ap (λ (y : ℕ). phase y t) z ∙ at)) side i
+    (λ k z. shut.unowned k (ap (λ (y : ℕ). phase y t) z ∙ at)) part side i
     (inr (c, is, s)) e in
-    let z = root_seen_gain c s.0 b d t s.1 in (
+    let z = root_seen_gain c part s.0 b d t s.1 in (
       ⊎_elim
-          (λ (w : root_seen c t ≡ Some s.0). (g, at, inr (side, i, (s.0, w, s.2), before.1)))
-          (λ (w : (b ≡ c) × LoadsRoot s.0 d).
-          let m = loads_root o c s.0 d t is (subst (λ (y : ℕ). Allowed o t y d) w.0 may) w.1 in
-          absurd (shut.unnamed side i (subst (λ (y : ℕ). IsInUse y side i) (sym m.1) s.2)
+          (λ (w : root_seen c part t ≡ Some s.0). (g, at, inr (part, side, i, (s.0, w, s.2), before.1)))
+          (λ (w : (b ≡ c) × LoadsRoot part s.0 d).
+          let m = loads_root o c part s.0 d t is (subst (λ (y : ℕ). Allowed o t y d) w.0 may) w.1 in
+          absurd (shut.unnamed part side i (subst (λ (y : ℕ). IsInUse y side i) (sym m.1) s.2)
           (ap (λ (y : ℕ). phase y t) before.1 ∙ at)))
           z.1,
       z.0,
@@ -120,14 +120,14 @@ old_groups-shut o f t b d valid may shut c is l = go l.0 (old_before o f t b l.0
         ⊎_elim
         (λ (z : (k : ℕ) × (group_of o k t ≡ g)).
         absurd (shut.unowned z.0 (ap (λ (y : ℕ). phase y t) z.1 ∙ at)))
-        (λ (y : ((side : ℕ) × (i : ℕ) × SeesSlot c side i t × (slot o side i t ≡ g))
+        (λ (y : ((part : ℕ) × (side : ℕ) × (i : ℕ) × SeesSlot c part side i t × (slot o part side i t ≡ g))
         ⊎ (((j : ℕ) × (e : ℕ) × (stands_in c j t ≡ true) × (phase j t ≡ Opened e)
         × (phase g t ≡ Opened e))
         ⊎ (((e : ℕ) × (rebuild g t ≡ Some e) × (saw_opened c e t ≡ true))
         ⊎ ((j : ℕ) × (stands_in c j t ≡ true) × (phase j t ≡ Opened g))))).
         ⊎_elim
-        (λ (z : (side : ℕ) × (i : ℕ) × SeesSlot c side i t × (slot o side i t ≡ g)).
-        (g, at, inr (z.0, z.1, z.2, z.3)))
+        (λ (z : (part : ℕ) × (side : ℕ) × (i : ℕ) × SeesSlot c part side i t × (slot o part side i t ≡ g)).
+        (g, at, inr (z.0, z.1, z.2, z.3, z.4)))
         (λ (x : ((j : ℕ) × (e : ℕ) × (stands_in c j t ≡ true) × (phase j t ≡ Opened e)
         × (phase g t ≡ Opened e))
         ⊎ (((e : ℕ) × (rebuild g t ≡ Some e) × (saw_opened c e t ≡ true))
@@ -149,8 +149,8 @@ old_groups-shut o f t b d valid may shut c is l = go l.0 (old_before o f t b l.0
 
     go : (g : ℕ) → phase g t ≡ Opened f →
         (stands_in c g (event b d ∷ t) ≡ true)
-        ⊎ ((side : ℕ) × (i : ℕ) × SeesSlot c side i (event b d ∷ t)
-        × (slot o side i (event b d ∷ t) ≡ g)) →
+        ⊎ ((part : ℕ) × (side : ℕ) × (i : ℕ) × SeesSlot c part side i (event b d ∷ t)
+        × (slot o part side i (event b d ∷ t) ≡ g)) →
         ReliesOnOld o f c t × (crossings c (event b d ∷ t) ≡ crossings c t)
     go g at how =
         ⊎_elim
@@ -163,17 +163,17 @@ old_groups-shut o f t b d valid may shut c is l = go l.0 (old_before o f t b l.0
               z.1,
           z.0,
         ))
-        (λ (s : (side : ℕ) × (i : ℕ) × SeesSlot c side i (event b d ∷ t)
-        × (slot o side i (event b d ∷ t) ≡ g)).
-        seen_back o f t b g c d valid may shut at is s.0 s.1 s.2 s.3)
+        (λ (s : (part : ℕ) × (side : ℕ) × (i : ℕ) × SeesSlot c part side i (event b d ∷ t)
+        × (slot o part side i (event b d ∷ t) ≡ g)).
+        seen_back o f t b g c d valid may shut at is s.0 s.1 s.2 s.3 s.4)
         how
 
 pub old-inside : (o : Opening) (f : ℕ) (t : Execution) → Valid o t → (c : ℕ) → IsCaller o c →
     ReliesOnOld o f c t → IsInside c t
 old-inside o f t valid c is l =
     ⊎_elim (λ (s : stands_in c l.0 t ≡ true). stands_in-inside o c l.0 t is valid s)
-    (λ (s : (side : ℕ) × (i : ℕ) × SeesSlot c side i t × (slot o side i t ≡ l.0)).
-    root_seen-inside o c s.2.0 t is valid s.2.1) l.2
+    (λ (s : (part : ℕ) × (side : ℕ) × (i : ℕ) × SeesSlot c part side i t × (slot o part side i t ≡ l.0)).
+    root_seen-inside o c s.0 s.3.0 t is valid s.3.1) l.2
 
 pub second_barrier : SecondBarrierEndsOldGroups
 second_barrier o f n t valid shut quiescent =
@@ -216,18 +216,19 @@ third_barrier o p n t valid shut quiescent =
 
 -- ---- the unused side ----
 
-side-shut : (o : Opening) (side : ℕ) → IsShutBy o (StandsOnSide side) (IsShutForSide side o)
-side-shut o side t b d valid may shut c is l =
-    let s = l.1 in let z = root_seen_gain c s.0 b d t s.1 in (
-      ⊎_elim (λ (w : root_seen c t ≡ Some s.0). (l.0, (s.0, w, s.2)))
-          (λ (w : (b ≡ c) × LoadsRoot s.0 d).
-          let m = loads_root o c s.0 d t is (subst (λ (y : ℕ). Allowed o t y d) w.0 may) w.1 in
+side-shut : (o : Opening) (part side : ℕ) →
+    IsShutBy o (StandsOnSide part side) (IsShutForSide part side o)
+side-shut o part side t b d valid may shut c is l =
+    let s = l.1 in let z = root_seen_gain c part s.0 b d t s.1 in (
+      ⊎_elim (λ (w : root_seen c part t ≡ Some s.0). (l.0, (s.0, w, s.2)))
+          (λ (w : (b ≡ c) × LoadsRoot part s.0 d).
+          let m = loads_root o c part s.0 d t is (subst (λ (y : ℕ). Allowed o t y d) w.0 may) w.1 in
           absurd (shut l.0 (subst (λ (y : ℕ). IsInUse y side l.0) (sym m.1) s.2)))
           z.1,
       z.0,
     )
 
 pub side_barrier : BarrierEndsUnusedSide
-side_barrier o side n t valid shut quiescent =
-    relied_on_by_none o (StandsOnSide side) (IsShutForSide side o) (side-shut o side)
-    (λ t v c is l. root_seen-inside o c l.1.0 t is v l.1.1) n t valid shut quiescent
+side_barrier o part side n t valid shut quiescent =
+    relied_on_by_none o (StandsOnSide part side) (IsShutForSide part side o) (side-shut o part side)
+    (λ t v c is l. root_seen-inside o c part l.1.0 t is v l.1.1) n t valid shut quiescent

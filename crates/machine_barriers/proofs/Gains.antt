@@ -114,11 +114,11 @@ stands_in_gain c g b (Enter n) t e =
     let z = dropped b c (crossings c t) (stands_in c g t) e in (z.0, inl z.1)
 stands_in_gain c g b (Leave n) t e =
     let z = dropped b c (crossings c t) (stands_in c g t) e in (z.0, inl z.1)
-stands_in_gain c g b (LoadSlotGroup side i found) t e = (
+stands_in_gain c g b (LoadSlotGroup part side i found) t e = (
   refl,
   ⊎_elim (λ (z : stands_in c g t ≡ true). inl z)
       (λ (z : (b ≡ c) × ((found == g) ≡ true)).
-      inr (z.0, inl (side, i, ap (LoadSlotGroup side i) (test_is found g z.1))))
+      inr (z.0, inl (part, side, i, ap (LoadSlotGroup part side i) (test_is found g z.1))))
       (set_by b c (found == g) (stands_in c g t) e),
 )
 stands_in_gain c g b (LoadNext h found) t e = (
@@ -167,20 +167,28 @@ reached_gain c p b (LoadLink g q found) t e = (
 )
 reached_gain c p b d t e = (refl, inl e)
 
-pub root_seen_gain : (c w b : ℕ) (d : Action) (t : Execution) →
-    root_seen c (event b d ∷ t) ≡ Some w →
-    Gain (λ t. root_seen c t ≡ Some w) (LoadsRoot w) c b d t
-root_seen_gain c w b (Enter n) t e =
-    let z = forgotten b c (crossings c t) w (root_seen c t) e in (z.0, inl z.1)
-root_seen_gain c w b (Leave n) t e =
-    let z = forgotten b c (crossings c t) w (root_seen c t) e in (z.0, inl z.1)
-root_seen_gain c w b (LoadRoot found) t e =
+pub root_seen_gain : (c part w b : ℕ) (d : Action) (t : Execution) →
+    root_seen c part (event b d ∷ t) ≡ Some w →
+    Gain (λ t. root_seen c part t ≡ Some w) (LoadsRoot part w) c b d t
+root_seen_gain c part w b (Enter n) t e =
+    let z = forgotten b c (crossings c t) w (root_seen c part t) e in (z.0, inl z.1)
+root_seen_gain c part w b (Leave n) t e =
+    let z = forgotten b c (crossings c t) w (root_seen c part t) e in (z.0, inl z.1)
+root_seen_gain c part w b (LoadRoot p found) t e =
+    let seen : Option ℕ = cond (p == part) (Some found) (root_seen c part t) in
     dite (ℕ_discrete b c)
-    (λ (z : b ≡ c). let same : found ≡ w = some_is
-    (sym (choice-same b c (Some found) (root_seen c t) z) ∙ e) in
-    (refl, inr (z, ap LoadRoot same)))
-    (λ (k : b ≢ c). (refl, inl (sym (choice-other b c (Some found) (root_seen c t) k) ∙ e)))
-root_seen_gain c w b d t e = (refl, inl e)
+    (λ (z : b ≡ c).
+    let own : seen ≡ Some w = sym (choice-same b c seen (root_seen c part t) z) ∙ e in
+    dite (ℕ_discrete p part)
+    (λ (here : p ≡ part).
+    let same : found ≡ w =
+    some_is (sym (choice-same p part (Some found) (root_seen c part t) here) ∙ own)
+    in
+    (refl, inr (z, ap (λ (x : ℕ). LoadRoot x found) here ∙ ap (LoadRoot part) same)))
+    (λ (there : p ≢ part).
+    (refl, inl (sym (choice-other p part (Some found) (root_seen c part t) there) ∙ own))))
+    (λ (k : b ≢ c). (refl, inl (sym (choice-other b c seen (root_seen c part t) k) ∙ e)))
+root_seen_gain c part w b d t e = (refl, inl e)
 
 -- ---- so the hand is inside ----
 

@@ -68,14 +68,14 @@ unowned_stays o t b d g may gone alone k e = gone.unowned k e
 pub gone_stays : GoneGroupsStay
 gone_stays o t b d g may gone alone = record {
   unowned = unowned_stays o t b d g may gone alone;
-  unnamed = λ side i r e.
+  unnamed = λ part side i r e.
       let w = slot_back o t b d may g
-      (λ s lead low high m z.
+      (λ q s lead low high m z.
       let first = m.first in
-      not_taken_in o t b (FirstSlot s) lead low high g m alone low first.0
+      not_taken_in o t b (FirstSlot q s) lead low high g m alone low first.0
       (first.1 ∙ ap Some z))
-      gone.unowned side i r e in
-      gone.unnamed side i w.0 w.1;
+      gone.unowned part side i r e in
+      gone.unnamed part side i w.0 w.1;
   empty = λ c is s.
       ⊎_elim (λ (z : stands_in c g t ≡ true). gone.empty c is z)
       (λ (z : (b ≡ c) × LoadsGroup g d).
@@ -87,7 +87,7 @@ gone_stays o t b d g may gone alone = record {
 pub begun_gone : BegunGroupsAreGone
 begun_gone o t b g low high f may = record {
   unowned = λ k e. may.gone.unowned k e;
-  unnamed = λ side i r e. may.gone.unnamed side i r e;
+  unnamed = λ part side i r e. may.gone.unnamed part side i r e;
   empty = λ c is s. may.gone.empty c is s;
 }
 
@@ -131,7 +131,7 @@ seen_old_step o t b (Enter n) may c f h is e at =
     (stays_standing b c (saw_opened c f t) (stands_in c h t) e at.0, at.1)
 seen_old_step o t b (Leave n) may c f h is e at =
     (stays_standing b c (saw_opened c f t) (stands_in c h t) e at.0, at.1)
-seen_old_step o t b (LoadSlotGroup side i found) may c f h is e at =
+seen_old_step o t b (LoadSlotGroup part side i found) may c f h is e at =
     (stays_set (b == c) (found == h) (stands_in c h t) at.0, at.1)
 seen_old_step o t b (LoadNext g found) may c f h is e at =
     (stays_set (b == c) (found == h + 1) (stands_in c h t) at.0, at.1)
@@ -189,14 +189,14 @@ unopened_alone o t valid g gone unopened past = record {
       (past f made (group_of o k t) opened).unowned k refl;
   unreachable = λ c is r.
       ⊎_elim (λ (z : (k : ℕ) × (group_of o k t ≡ g)). gone.unowned z.0 z.1)
-      (λ (y : ((side : ℕ) × (i : ℕ) × SeesSlot c side i t × (slot o side i t ≡ g))
+      (λ (y : ((part : ℕ) × (side : ℕ) × (i : ℕ) × SeesSlot c part side i t × (slot o part side i t ≡ g))
       ⊎ (((j : ℕ) × (e : ℕ) × (stands_in c j t ≡ true) × (phase j t ≡ Opened e)
       × (phase g t ≡ Opened e))
       ⊎ (((e : ℕ) × (rebuild g t ≡ Some e) × (saw_opened c e t ≡ true))
       ⊎ ((j : ℕ) × (stands_in c j t ≡ true) × (phase j t ≡ Opened g))))).
       ⊎_elim
-      (λ (z : (side : ℕ) × (i : ℕ) × SeesSlot c side i t × (slot o side i t ≡ g)).
-      gone.unnamed z.0 z.1 (inr (c, is, z.2)) z.3)
+      (λ (z : (part : ℕ) × (side : ℕ) × (i : ℕ) × SeesSlot c part side i t × (slot o part side i t ≡ g)).
+      gone.unnamed z.0 z.1 z.2 (inr (c, is, z.3)) z.4)
       (λ (x : ((j : ℕ) × (e : ℕ) × (stands_in c j t ≡ true) × (phase j t ≡ Opened e)
       × (phase g t ≡ Opened e))
       ⊎ (((e : ℕ) × (rebuild g t ≡ Some e) × (saw_opened c e t ≡ true))

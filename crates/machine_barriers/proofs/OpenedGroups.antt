@@ -2,7 +2,7 @@
 -- left. Gone groups of one rebuild stay gone, all together.
 use Rattle.std.proofs.Common.{◌≡◌, ◌≢◌, ℕ, ◌⊎◌, inl, inr, ⊎_elim, Option, Some, Bool, true, false}
 use Rattle.std.proofs.Common.{[], ◌∷◌, cond, refl, sym, ap, ◌∙◌, subst}
-use Rattle.std.specs.Prelude.{◌==◌}
+use Rattle.std.specs.Prelude.{◌&&◌, ◌==◌}
 use mathlib.Core.Logic.{dite}
 use native.Mathlib.Decide.{ℕ_discrete}
 use Rattle.index_machine.proofs.Executions.{choice-other, choice-same}
@@ -195,30 +195,42 @@ unowned_on o t b d may h f at gone k z = gone.unowned k z
 
 -- a slot that can be loaded could be before, or the root word was stored
 readable_back : (o : Opening) (t : Execution) (b : ℕ) (d : Action) → Allowed o t b d →
-    (side i : ℕ) → IsReadableSlot o side i (event b d ∷ t) →
-    IsReadableSlot o side i t
-    ⊎ ((w : ℕ) × (d ≡ StoreRoot w) × IsInUse w side i)
-readable_back o t b d may side i r =
-    ⊎_elim (λ (z : IsInUse (root o (event b d ∷ t)) side i). present d z)
-    (λ (z : (c : ℕ) × IsCaller o c × SeesSlot c side i (event b d ∷ t)). inl (seen z.0 z.1 z.2)) r
+    (part side i : ℕ) → IsReadableSlot o part side i (event b d ∷ t) →
+    IsReadableSlot o part side i t
+    ⊎ ((w : ℕ) × (d ≡ StoreRoot part w) × IsInUse w side i)
+readable_back o t b d may part side i r =
+    ⊎_elim (λ (z : IsInUse (root o part (event b d ∷ t)) side i). present d z)
+    (λ (z : (c : ℕ) × IsCaller o c × SeesSlot c part side i (event b d ∷ t)). inl (seen z.0 z.1 z.2)) r
   where
-    present : (d : Action) → IsInUse (root o (event b d ∷ t)) side i →
-        IsReadableSlot o side i t ⊎ ((w : ℕ) × (d ≡ StoreRoot w) × IsInUse w side i)
-    present (StoreRoot w) z = inr (w, refl, z)
+    present : (d : Action) → IsInUse (root o part (event b d ∷ t)) side i →
+        IsReadableSlot o part side i t ⊎ ((w : ℕ) × (d ≡ StoreRoot part w) × IsInUse w side i)
+    present (StoreRoot q w) z = dite (ℕ_discrete q part)
+        (λ (here : q ≡ part).
+        inr (
+          w,
+          ap (λ (p : ℕ). StoreRoot p w) here,
+          subst (λ (x : ℕ). IsInUse x side i) (choice-same q part w (root o part t) here) z,
+        ))
+        (λ (there : q ≢ part).
+        inl (inl (subst (λ (x : ℕ). IsInUse x side i) (choice-other q part w (root o part t) there)
+        z)))
     present d z = inl (inl z)
 
-    seen : (c : ℕ) → IsCaller o c → SeesSlot c side i (event b d ∷ t) →
-        IsReadableSlot o side i t
+    seen : (c : ℕ) → IsCaller o c → SeesSlot c part side i (event b d ∷ t) →
+        IsReadableSlot o part side i t
     seen c is z =
-        ⊎_elim (λ (w : root_seen c t ≡ Some z.0). inr (c, is, (z.0, w, z.2)))
-        (λ (w : (b ≡ c) × LoadsRoot z.0 d).
-        let m = loads_root o c z.0 d t is (subst (λ (y : ℕ). Allowed o t y d) w.0 may) w.1 in
+        ⊎_elim (λ (w : root_seen c part t ≡ Some z.0). inr (c, is, (z.0, w, z.2)))
+        (λ (w : (b ≡ c) × LoadsRoot part z.0 d).
+        let m = loads_root o c part z.0 d t is (subst (λ (y : ℕ). Allowed o t y d) w.0 may) w.1 in
         inl (subst (λ (y : ℕ). IsInUse y side i) (sym m.1) z.2))
-        (root_seen_gain c z.0 b d t z.1).1
+        (root_seen_gain c part z.0 b d t z.1).1
 
-slot_is : (s j side i : ℕ) → same_slot s j side i ≡ true → (s ≡ side) × (j ≡ i)
-slot_is s j side i e =
-    let w = both_are (s == side) (j == i) e in (test_is s side w.0, test_is j i w.1)
+slot_is : (q s j part side i : ℕ) → same_slot q s j part side i ≡ true →
+    (q ≡ part) × (s ≡ side) × (j ≡ i)
+slot_is q s j part side i e =
+    let v = both_are (q == part) ((s == side) && (j == i)) e in
+    let w = both_are (s == side) (j == i) v.1 in
+    (test_is q part v.0, test_is s side w.0, test_is j i w.1)
 
 choose : (w : Bool) (a b h : ℕ) → cond w a b ≡ h → ((w ≡ true) × (a ≡ h)) ⊎ (b ≡ h)
 choose true a b h e = inl (refl, e)
@@ -234,78 +246,82 @@ lead_open o t b spot lead low high may =
 -- a slot that can be loaded, and names the group, named it before and could be loaded
 pub slot_back : (o : Opening) (t : Execution) (b : ℕ) (d : Action) → Allowed o t b d →
     (h : ℕ) →
-    ((s lead low high : ℕ) → MayInstall o t b (FirstSlot s) lead low high → lead ≡ h → ⊥) →
-    ((k : ℕ) → group_of o k t ≢ h) → (side i : ℕ) → IsReadableSlot o side i (event b d ∷ t) →
-    slot o side i (event b d ∷ t) ≡ h →
-    IsReadableSlot o side i t × (slot o side i t ≡ h)
-slot_back o t b d may h not_led unowned side i r e = written d may e
-    (readable_back o t b d may side i r)
+    ((q s lead low high : ℕ) → MayInstall o t b (FirstSlot q s) lead low high → lead ≡ h → ⊥) →
+    ((k : ℕ) → group_of o k t ≢ h) → (part side i : ℕ) → IsReadableSlot o part side i (event b d ∷ t) →
+    slot o part side i (event b d ∷ t) ≡ h →
+    IsReadableSlot o part side i t × (slot o part side i t ≡ h)
+slot_back o t b d may h not_led unowned part side i r e = written d may e
+    (readable_back o t b d may part side i r)
   where
-    same : (d : Action) → Allowed o t b d → slot o side i t ≡ h →
-        ((w : ℕ) → d ≡ StoreRoot w → IsInUse w side i → ⊥) →
-        IsReadableSlot o side i t ⊎ ((w : ℕ) × (d ≡ StoreRoot w) × IsInUse w side i) →
-        IsReadableSlot o side i t × (slot o side i t ≡ h)
+    same : (d : Action) → Allowed o t b d → slot o part side i t ≡ h →
+        ((w : ℕ) → d ≡ StoreRoot part w → IsInUse w side i → ⊥) →
+        IsReadableSlot o part side i t ⊎ ((w : ℕ) × (d ≡ StoreRoot part w) × IsInUse w side i) →
+        IsReadableSlot o part side i t × (slot o part side i t ≡ h)
     same d may e never r =
-        ⊎_elim (λ (z : IsReadableSlot o side i t). (z, e))
-        (λ (z : (w : ℕ) × (d ≡ StoreRoot w) × IsInUse w side i). absurd (never z.0 z.1 z.2)) r
+        ⊎_elim (λ (z : IsReadableSlot o part side i t). (z, e))
+        (λ (z : (w : ℕ) × (d ≡ StoreRoot part w) × IsInUse w side i). absurd (never z.0 z.1 z.2)) r
 
-    written : (d : Action) → Allowed o t b d → slot o side i (event b d ∷ t) ≡ h →
-        IsReadableSlot o side i t ⊎ ((w : ℕ) × (d ≡ StoreRoot w) × IsInUse w side i) →
-        IsReadableSlot o side i t × (slot o side i t ≡ h)
-    written (StoreSlot s j g) may e r =
+    written : (d : Action) → Allowed o t b d → slot o part side i (event b d ∷ t) ≡ h →
+        IsReadableSlot o part side i t ⊎ ((w : ℕ) × (d ≡ StoreRoot part w) × IsInUse w side i) →
+        IsReadableSlot o part side i t × (slot o part side i t ≡ h)
+    written (StoreSlot q s j g) may e r =
         ⊎_elim
-        (λ (z : (same_slot s j side i ≡ true) × (g ≡ h)).
-        let c = may.chained in absurd (unowned c.0 (c.1 ∙ z.1)))
-        (λ (z : slot o side i t ≡ h).
-        same (StoreSlot s j g) may z (λ w bad _. let no = bad in cc) r)
-        (choose (same_slot s j side i) g (slot o side i t) h e)
-    written (StoreUnusedGroup s j g) may e r =
+        (λ (z : (same_slot q s j part side i ≡ true) × (g ≡ h)).
+        let c = may.chained in absurd (unowned c.0 (c.2 ∙ z.1)))
+        (λ (z : slot o part side i t ≡ h).
+        same (StoreSlot q s j g) may z (λ w bad _. let no = bad in cc) r)
+        (choose (same_slot q s j part side i) g (slot o part side i t) h e)
+    written (StoreUnusedGroup q s j g) may e r =
         ⊎_elim
-        (λ (z : (same_slot s j side i ≡ true) × (g ≡ h)).
-        let p = slot_is s j side i z.0 in absurd (unread s p.0 may r))
-        (λ (z : slot o side i t ≡ h).
-        same (StoreUnusedGroup s j g) may z (λ w bad _. let no = bad in cc) r)
-        (choose (same_slot s j side i) g (slot o side i t) h e)
+        (λ (z : (same_slot q s j part side i ≡ true) × (g ≡ h)).
+        let p = slot_is q s j part side i z.0 in absurd (unread q s p.0 p.1 may r))
+        (λ (z : slot o part side i t ≡ h).
+        same (StoreUnusedGroup q s j g) may z (λ w bad _. let no = bad in cc) r)
+        (choose (same_slot q s j part side i) g (slot o part side i t) h e)
       where
-        unread : (s : ℕ) → s ≡ side → MayStoreUnused o t b s j →
-            IsReadableSlot o side i t
-            ⊎ ((w : ℕ) × (StoreUnusedGroup s j g ≡ StoreRoot w) × IsInUse w side i) → ⊥
-        unread s p m r =
-            let u : IsUnusedSide o side t = subst (λ (y : ℕ). IsUnusedSide o y t) p m.unused in
+        unread : (q s : ℕ) → q ≡ part → s ≡ side → MayStoreUnused o t b q s j →
+            IsReadableSlot o part side i t
+            ⊎ ((w : ℕ) × (StoreUnusedGroup q s j g ≡ StoreRoot part w) × IsInUse w side i) → ⊥
+        unread q s here p m r =
+            let u : IsUnusedSide o part side t =
+            subst (λ (x : ℕ). IsUnusedSide o x side t) here
+            (subst (λ (y : ℕ). IsUnusedSide o q y t) p m.unused)
+            in
             ⊎_elim
-            (λ (z : IsReadableSlot o side i t).
-            ⊎_elim (λ (w : IsInUse (root o t) side i). u.not_present i w)
-            (λ (w : (c : ℕ) × IsCaller o c × SeesSlot c side i t). u.empty w.0 i w.1 w.2) z)
-            (λ (z : (w : ℕ) × (StoreUnusedGroup s j g ≡ StoreRoot w) × IsInUse w side i).
+            (λ (z : IsReadableSlot o part side i t).
+            ⊎_elim (λ (w : IsInUse (root o part t) side i). u.not_present i w)
+            (λ (w : (c : ℕ) × IsCaller o c × SeesSlot c part side i t). u.empty w.0 i w.1 w.2) z)
+            (λ (z : (w : ℕ) × (StoreUnusedGroup q s j g ≡ StoreRoot part w) × IsInUse w side i).
             let bad = z.1 in cc) r
     written (Install (NextOf left) lead low high) may e r =
         same (Install (NextOf left) lead low high) may e (λ w bad _. let no = bad in cc) r
-    written (Install (FirstSlot s) lead low high) may e r =
+    written (Install (FirstSlot q s) lead low high) may e r =
         ⊎_elim
-        (λ (z : (same_slot s 0 side i ≡ true) × (lead ≡ h)).
-        absurd (not_led s lead low high may z.1))
-        (λ (z : slot o side i t ≡ h).
-        same (Install (FirstSlot s) lead low high) may z (λ w bad _. let no = bad in cc) r)
-        (choose (same_slot s 0 side i) lead (slot o side i t) h e)
-    written (StoreRoot w) may e r =
-        same (StoreRoot w) may e
-        (λ v is in_use. let c = may.chained side i
-        (subst (λ (y : ℕ). IsInUse y side i) (root_is is) in_use) in
-        unowned c.0 (c.1 ∙ e)) r
+        (λ (z : (same_slot q s 0 part side i ≡ true) × (lead ≡ h)).
+        absurd (not_led q s lead low high may z.1))
+        (λ (z : slot o part side i t ≡ h).
+        same (Install (FirstSlot q s) lead low high) may z (λ w bad _. let no = bad in cc) r)
+        (choose (same_slot q s 0 part side i) lead (slot o part side i t) h e)
+    written (StoreRoot q w) may e r =
+        same (StoreRoot q w) may e
+        (λ v is in_use.
+        let same = root_is is in
+        let c = may.chained side i (subst (λ (y : ℕ). IsInUse y side i) same.1 in_use) in
+        unowned c.0 (c.2 ∙ ap (λ (p : ℕ). slot o p side i t) same.0 ∙ e)) r
       where
-        root_is : {v : ℕ} → StoreRoot w ≡ StoreRoot v → v ≡ w
-        root_is e = cc
+        root_is : {p v : ℕ} → StoreRoot q w ≡ StoreRoot p v → (q ≡ p) × (v ≡ w)
+        root_is e = (cc, cc)
     written d may e r = same d may e (λ w bad _. let no = bad in cc) r
 
 pub named_back : (o : Opening) (t : Execution) (b : ℕ) (d : Action) → Allowed o t b d →
-    (h f : ℕ) → phase h t ≡ Opened f → ((k : ℕ) → group_of o k t ≢ h) → (side i : ℕ) →
-    IsReadableSlot o side i (event b d ∷ t) → slot o side i (event b d ∷ t) ≡ h →
-    IsReadableSlot o side i t × (slot o side i t ≡ h)
-named_back o t b d may h f at unowned side i r e =
+    (h f : ℕ) → phase h t ≡ Opened f → ((k : ℕ) → group_of o k t ≢ h) → (part side i : ℕ) →
+    IsReadableSlot o part side i (event b d ∷ t) → slot o part side i (event b d ∷ t) ≡ h →
+    IsReadableSlot o part side i t × (slot o part side i t ≡ h)
+named_back o t b d may h f at unowned part side i r e =
     slot_back o t b d may h
-    (λ s lead low high m z. open_not (sym (lead_open o t b (FirstSlot s) lead low high m)
+    (λ q s lead low high m z. open_not (sym (lead_open o t b (FirstSlot q s) lead low high m)
     ∙ (ap (λ (y : ℕ). phase y t) z ∙ at)))
-    unowned side i r e
+    unowned part side i r e
 
 -- a group that can be reached from where a caller is, is not gone
 pub not_reachable : (o : Opening) (t : Execution) → OpenedGroupsHold o t → (h f c : ℕ) →
@@ -313,14 +329,14 @@ pub not_reachable : (o : Opening) (t : Execution) → OpenedGroupsHold o t → (
 not_reachable o t old h f c is at all r =
     ⊎_elim
     (λ (z : (k : ℕ) × (group_of o k t ≡ h)). (all h at).unowned z.0 z.1)
-    (λ (y : ((side : ℕ) × (i : ℕ) × SeesSlot c side i t × (slot o side i t ≡ h))
+    (λ (y : ((part : ℕ) × (side : ℕ) × (i : ℕ) × SeesSlot c part side i t × (slot o part side i t ≡ h))
     ⊎ (((j : ℕ) × (e : ℕ) × (stands_in c j t ≡ true) × (phase j t ≡ Opened e)
     × (phase h t ≡ Opened e))
     ⊎ (((e : ℕ) × (rebuild h t ≡ Some e) × (saw_opened c e t ≡ true))
     ⊎ ((j : ℕ) × (stands_in c j t ≡ true) × (phase j t ≡ Opened h))))).
     ⊎_elim
-    (λ (z : (side : ℕ) × (i : ℕ) × SeesSlot c side i t × (slot o side i t ≡ h)).
-    (all h at).unnamed z.0 z.1 (inr (c, is, z.2)) z.3)
+    (λ (z : (part : ℕ) × (side : ℕ) × (i : ℕ) × SeesSlot c part side i t × (slot o part side i t ≡ h)).
+    (all h at).unnamed z.0 z.1 z.2 (inr (c, is, z.3)) z.4)
     (λ (x : ((j : ℕ) × (e : ℕ) × (stands_in c j t ≡ true) × (phase j t ≡ Opened e)
     × (phase h t ≡ Opened e))
     ⊎ (((e : ℕ) × (rebuild h t ≡ Some e) × (saw_opened c e t ≡ true))
@@ -344,9 +360,9 @@ pub gone_on : (o : Opening) (t : Execution) (b : ℕ) (d : Action) → Allowed o
     IsGone o h (event b d ∷ t)
 gone_on o t b d may old h f at all = record {
   unowned = λ k z. unowned_on o t b d may h f at (all h at) k z;
-  unnamed = λ side i r e.
-      let w = named_back o t b d may h f at (all h at).unowned side i r e in
-      (all h at).unnamed side i w.0 w.1;
+  unnamed = λ part side i r e.
+      let w = named_back o t b d may h f at (all h at).unowned part side i r e in
+      (all h at).unnamed part side i w.0 w.1;
   empty = λ c is s.
       ⊎_elim (λ (z : stands_in c h t ≡ true). (all h at).empty c is z)
       (λ (z : (b ≡ c) × LoadsGroup h d).

@@ -15,7 +15,8 @@ use Rattle.index_machine.specs.RebuildConditions.{MayLoadPhase}
 use Rattle.index_machine.specs.Lanes.{HasLane}
 use Rattle.index_machine.specs.RecordConditions.{IsInArrayOf, IsLinkInto, MayWalk}
 use Rattle.index_machine.specs.Rows.{InBuffer, role}
-use Rattle.index_machine.specs.Sections.{IsCaller, IsInside, IsKeeper, IsOutside, IsReading}
+use Rattle.index_machine.specs.Sections.{IsCaller, IsInside, IsOutside, IsReading}
+use Rattle.index_machine.specs.Keepers.{IsKeeper, IsPartKeeper, IsGroupKeeper}
 use Rattle.index_machine.specs.declared.events.Action.{Action}
 use Rattle.index_machine.specs.declared.events.Action.TheVariants.{LoadHead, LoadLink, LoadNext}
 use Rattle.index_machine.specs.declared.events.Action.TheVariants.{LoadPhase, LoadRoot}
@@ -78,7 +79,7 @@ walks : (o : Opening) (c g : ℕ) (t : Execution) → IsCaller o c → MayWalk o
     IsReading o c t × (stands_in c g t ≡ true)
 walks o c g t is may =
     ⊎_elim (λ (z : IsReading o c t × (stands_in c g t ≡ true)). z)
-    (λ (z : IsKeeper o c). caller_not_keeper o c is z) may
+    (λ (z : IsGroupKeeper o c g). caller_not_keeper o c is (omega arith)) may
 
 -- a phase load by a caller: it stands in the group, which has this phase
 pub loads_phase : (o : Opening) (c g found : ℕ) (x : Phase) (t : Execution) → IsCaller o c →
@@ -93,11 +94,12 @@ pub loads_group : (o : Opening) (c g : ℕ) (d : Action) (t : Execution) → IsC
     Allowed o t c d → LoadsGroup g d → IsReading o c t × IsReachable o c g t
 loads_group o c g d t is may by =
     ⊎_elim
-    (λ (z : (side : ℕ) × (i : ℕ) × (d ≡ LoadSlotGroup side i g)).
-    let m = may_as o t c d (LoadSlotGroup z.0 z.1 g) z.2 may in
+    (λ (z : (part : ℕ) × (side : ℕ) × (i : ℕ) × (d ≡ LoadSlotGroup part side i g)).
+    let m = may_as o t c d (LoadSlotGroup z.0 z.1 z.2 g) z.3 may in
     ⊎_elim
-    (λ (w : IsReading o c t × SeesSlot c z.0 z.1 t). (w.0, inr (inl (z.0, z.1, w.1, m.says))))
-    (λ (w : IsKeeper o c). caller_not_keeper o c is w) m.allowed)
+    (λ (w : IsReading o c t × SeesSlot c z.0 z.1 z.2 t).
+    (w.0, inr (inl (z.0, z.1, z.2, w.1, m.says))))
+    (λ (w : IsPartKeeper o c z.0). caller_not_keeper o c is (omega arith)) m.allowed)
     (λ (y : ((left : ℕ) × (d ≡ LoadNext left (g + 1)))
     ⊎ ((old : ℕ) × (d ≡ LoadPhase old (word_of_phase (Opened g))))).
     ⊎_elim
@@ -148,12 +150,12 @@ loads_place o c p d t is may by =
     by
 
 -- a load of the root by a caller
-pub loads_root : (o : Opening) (c w : ℕ) (d : Action) (t : Execution) → IsCaller o c →
-    Allowed o t c d → LoadsRoot w d → IsReading o c t × (root o t ≡ w)
-loads_root o c w d t is may by =
-    let m = may_as o t c d (LoadRoot w) by may in
+pub loads_root : (o : Opening) (c part w : ℕ) (d : Action) (t : Execution) → IsCaller o c →
+    Allowed o t c d → LoadsRoot part w d → IsReading o c t × (root o part t ≡ w)
+loads_root o c part w d t is may by =
+    let m = may_as o t c d (LoadRoot part w) by may in
     ⊎_elim (λ (z : IsReading o c t). (z, m.says))
-    (λ (z : IsKeeper o c). caller_not_keeper o c is z) m.allowed
+    (λ (z : IsPartKeeper o c part). caller_not_keeper o c is (omega arith)) m.allowed
 
 -- ---- a caller that relies on something is inside ----
 
@@ -189,12 +191,12 @@ reached-inside o c p t is valid e =
     (λ b d t e. reached_gain c p b d t e)
     (λ t d may by. (loads_place o c p d t is may by).0.inside) t valid e
 
-pub root_seen-inside : (o : Opening) (c w : ℕ) (t : Execution) → IsCaller o c → Valid o t →
-    root_seen c t ≡ Some w → IsInside c t
-root_seen-inside o c w t is valid e =
-    inside o c (λ t. root_seen c t ≡ Some w) (LoadsRoot w) (λ e. none_some e)
-    (λ b d t e. root_seen_gain c w b d t e)
-    (λ t d may by. (loads_root o c w d t is may by).0.inside) t valid e
+pub root_seen-inside : (o : Opening) (c part w : ℕ) (t : Execution) → IsCaller o c → Valid o t →
+    root_seen c part t ≡ Some w → IsInside c t
+root_seen-inside o c part w t is valid e =
+    inside o c (λ t. root_seen c part t ≡ Some w) (LoadsRoot part w) (λ e. none_some e)
+    (λ b d t e. root_seen_gain c part w b d t e)
+    (λ t d may by. (loads_root o c part w d t is may by).0.inside) t valid e
 
 -- ---- outside ----
 
@@ -211,8 +213,8 @@ none_unless (Some w) never = absurd (never w refl)
 
 pub outside : CallersOutsideRelyOnNothing
 outside o t valid c is out = record {
-  root = none_unless (root_seen c t)
-      (λ w e. outside_not c t out (root_seen-inside o c w t is valid e));
+  roots = λ part. none_unless (root_seen c part t)
+      (λ w e. outside_not c t out (root_seen-inside o c part w t is valid e));
   groups = λ g. false_unless (stands_in c g t)
       (λ e. outside_not c t out (stands_in-inside o c g t is valid e));
   open_groups = λ g. false_unless (saw_open c g t)

@@ -58,16 +58,16 @@ pub record IsShutForInserts (group : ℕ) (o : Opening) (t : Execution) : Type 0
 -- the old groups of the rebuild are in no key range, and no slot in use names one
 pub record IsShutForOldGroups (first : ℕ) (o : Opening) (t : Execution) : Type 0 where
   pub unowned : (k : ℕ) → phase (group_of o k t) t ≢ Opened first
-  pub unnamed : (side i : ℕ) → IsInUse (root o t) side i →
-      phase (slot o side i t) t ≢ Opened first
+  pub unnamed : (part side i : ℕ) → IsInUse (root o part t) side i →
+      phase (slot o part side i t) t ≢ Opened first
   pub installed : (k : ℕ) × (new : ℕ) × (rebuild new t ≡ Some first) × (group_of o k t ≡ new)
 
--- the hand stands in an old group of the rebuild, or on a side of the root that leads to one
+-- the hand stands in an old group of the rebuild, or on a side of a root that leads to one
 abbrev pub ReliesOnOld : Opening → ℕ → ℕ → Execution → Type 0
 ReliesOnOld o first hand t =
     (group : ℕ) × (phase group t ≡ Opened first)
     × ((stands_in hand group t ≡ true)
-    ⊎ ((side : ℕ) × (i : ℕ) × SeesSlot hand side i t × (slot o side i t ≡ group)))
+    ⊎ ((part : ℕ) × (side : ℕ) × (i : ℕ) × SeesSlot hand part side i t × (slot o part side i t ≡ group)))
 
 -- ---- the third barrier ----
 
@@ -77,21 +77,21 @@ pub record IsShutForOldPlace (place : ℕ) (o : Opening) (t : Execution) : Type 
   pub old : (group : ℕ) × (first : ℕ) × (k : ℕ) × IsInGroup o t group k place
       × (phase group t ≡ Opened first) × AreGone o first t
 
--- ---- the root ----
+-- ---- the roots ----
 
--- the side is not in use
-abbrev pub IsShutForSide : ℕ → Opening → Execution → Type 0
-IsShutForSide side o t = (i : ℕ) → IsInUse (root o t) side i → ⊥
+-- the side of the part's root is not in use
+abbrev pub IsShutForSide : ℕ → ℕ → Opening → Execution → Type 0
+IsShutForSide part side o t = (i : ℕ) → IsInUse (root o part t) side i → ⊥
 
--- the hand stands on the side
-abbrev pub StandsOnSide : ℕ → ℕ → Execution → Type 0
-StandsOnSide side hand t = (i : ℕ) × SeesSlot hand side i t
+-- the hand stands on the side of the part's root
+abbrev pub StandsOnSide : ℕ → ℕ → ℕ → Execution → Type 0
+StandsOnSide part side hand t = (i : ℕ) × SeesSlot hand part side i t
 
 -- ---- outside ----
 
 -- the hand came to nothing that it could rely on
 pub record ReliesOnNothing (hand : ℕ) (t : Execution) : Type 0 where
-  pub root : root_seen hand t ≡ None
+  pub roots : (part : ℕ) → root_seen hand part t ≡ None
   pub groups : (group : ℕ) → stands_in hand group t ≡ false
   pub open_groups : (group : ℕ) → saw_open hand group t ≡ false
   pub rebuilds : (first : ℕ) → saw_opened hand first t ≡ false
@@ -130,9 +130,9 @@ ThirdBarrierEndsOldPlaces =
     IsShutOver (IsShutForOldPlace place o) newer t → IsQuiescent o t (newer ++ t) →
     (caller : ℕ) → IsCaller o caller → reached caller place (newer ++ t) ≡ true → ⊥
 
--- nor stands on the side of the root that was not in use
+-- nor stands on a side of a root that was not in use
 abbrev pub BarrierEndsUnusedSide : Type 0
 BarrierEndsUnusedSide =
-    (o : Opening) (side : ℕ) (newer t : Execution) → Valid o (newer ++ t) →
-    IsShutOver (IsShutForSide side o) newer t → IsQuiescent o t (newer ++ t) →
-    (caller : ℕ) → IsCaller o caller → StandsOnSide side caller (newer ++ t) → ⊥
+    (o : Opening) (part side : ℕ) (newer t : Execution) → Valid o (newer ++ t) →
+    IsShutOver (IsShutForSide part side o) newer t → IsQuiescent o t (newer ++ t) →
+    (caller : ℕ) → IsCaller o caller → StandsOnSide part side caller (newer ++ t) → ⊥

@@ -29,7 +29,7 @@ SeesOpened first action = (old : ℕ) × (action ≡ LoadPhase old (word_of_phas
 -- the action loads the number of the group
 abbrev pub LoadsGroup : ℕ → Action → Type 0
 LoadsGroup group action =
-    ((side : ℕ) × (i : ℕ) × (action ≡ LoadSlotGroup side i group))
+    ((part : ℕ) × (side : ℕ) × (i : ℕ) × (action ≡ LoadSlotGroup part side i group))
     ⊎ (((left : ℕ) × (action ≡ LoadNext left (group + 1)))
     ⊎ ((old : ℕ) × (action ≡ LoadPhase old (word_of_phase (Opened group)))))
 
@@ -40,6 +40,6 @@ LoadsPlace place action =
     ⊎ (((group : ℕ) × (lane : ℕ) × (action ≡ LoadHead group lane place) × (place ≢ 0))
     ⊎ ((group : ℕ) × (row : ℕ) × (action ≡ LoadLink group row place) × (place ≢ 0)))
 
--- the action loads this root word
-abbrev pub LoadsRoot : ℕ → Action → Type 0
-LoadsRoot found action = action ≡ LoadRoot found
+-- the action loads this root word of the part
+abbrev pub LoadsRoot : ℕ → ℕ → Action → Type 0
+LoadsRoot part found action = action ≡ LoadRoot part found

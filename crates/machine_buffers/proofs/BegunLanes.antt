@@ -1,6 +1,6 @@
 -- The lanes of a buffer, as its group was begun: they stay, their cuts rise, and each key of the group is in
 -- one of them.
-use Rattle.std.proofs.Common.{◌≡◌, ◌≢◌, ℕ, zero, suc, ◌+◌, ◌<◌, ◌≤◌, ◌⊎◌, inl, inr, ⊎_elim, Option}
+use Rattle.std.proofs.Common.{length, ◌≡◌, ◌≢◌, ℕ, zero, suc, ◌+◌, ◌<◌, ◌≤◌, ◌⊎◌, inl, inr, ⊎_elim, Option}
 use Rattle.std.proofs.Common.{Some, None, Bool, true, false, [], ◌∷◌, ◌++◌, cond, refl, sym, ap, ◌∙◌}
 use Rattle.std.proofs.Common.{subst, arith, eq-eqb, eqb-true}
 use Rattle.std.specs.Prelude.{◌==◌, ◌-◌}
@@ -9,24 +9,27 @@ use native.Mathlib.Decide.{ℕ_discrete}
 use Rattle.index_machine.proofs.Executions.{choice-other, choice-same}
 use Rattle.index_machine.proofs.OpeningRows.{opening_role-buffer}
 use Rattle.index_machine.proofs.Options.{named_before, none_some, some_is}
-use Rattle.index_machine.proofs.Ranges.{in_range, range_in}
+use Rattle.index_machine.proofs.Ranges.{in_range}
 use Rattle.index_machine.specs.Conditions.{Allowed, Valid}
 use Rattle.index_machine.specs.Execution.{Execution, event}
 use Rattle.index_machine.specs.Groups.{phase, unless_named}
 use Rattle.index_machine.specs.KeyRanges.{group_of, predecessor, remembered, successor, unless_opened}
 use Rattle.index_machine.specs.Lanes.{HasLane, HasNewLanes, begun_word, cut, lanes}
-use Rattle.index_machine.specs.Openings.{greatest_key, opening_group, within}
-use Rattle.index_machine.specs.OpeningRows.{keys_in}
+use Rattle.index_machine.specs.Openings.{opening_group, within}
+use Rattle.rebuild_plan.specs.Plan.{lane_count}
+use Rattle.word_layout.specs.Parts.{greatest_key}
+use Rattle.index_machine.specs.OpeningRows.{opening_keys}
+use Rattle.index_machine.proofs.OpeningGroups.{opening_group-chain, opening_pivot-least}
 use Rattle.index_machine.specs.Permissions.{IsBufferFor}
 use Rattle.index_machine.specs.Rows.{InBuffer, role}
-use Rattle.index_machine.specs.Words.{limits, word}
+use Rattle.index_machine.specs.Words.{word}
 use Rattle.index_machine.specs.declared.events.Action.{Action}
 use Rattle.index_machine.specs.declared.events.Action.TheVariants.{Install, LinkRow, NewGroup}
 use Rattle.index_machine.specs.declared.events.InstallWord.{InstallWord}
 use Rattle.index_machine.specs.declared.opening.Opening.{Opening}
 use Rattle.machine_barriers.proofs.Reaches.{may_as}
 use Rattle.machine_buffers.proofs.NextRows.{less_or_not}
-use Rattle.machine_buffers.proofs.OpenedLanes.{opened_rising, opening_cut-is}
+use Rattle.machine_buffers.proofs.OpenedLanes.{opened_cut-is, opened_rising}
 use Rattle.machine_buffers.proofs.OutOfUse.{begins_or_not, group_in, group_out}
 use Rattle.machine_buffers.specs.Groups.{Begins, IsKeyOf}
 use Rattle.machine_buffers.specs.Lanes.{IsBefore, IsInRange, Lane, buffer_lane}
@@ -317,17 +320,22 @@ lanes_step o t b d k may old = record {
   before = λ g e. some_same o g k t (event b d ∷ t) (λ which. refl) (old.before g e);
 }
 
--- at the opening group 0 has lanes for all keys
-opened_lane : (o : Opening) (k : ℕ) → HasSomeLane o 0 k []
-opened_lane o k = lane_from o 0 k [] (omega arith)
-    (let first = opening_cut-is (keys_in o.rows) 0 (omega arith) in omega arith)
+-- at the opening the group of a key has a lane for it
+opened_lane : (o : Opening) (k : ℕ) → k ≤ greatest_key → HasSomeLane o (opening_group o k) k []
+opened_lane o k le =
+    let g : ℕ = opening_group o k in
+    let chained = opening_group-chain o k le in
+    let n : ℕ = length (opening_keys o g) in
+    let many : lanes o g [] ≡ lane_count n =
+    ap (λ (w : Bool). cond w (lane_count n) 0) chained
+    in
+    let first = opened_cut-is o g 0 chained (omega arith) in
+    let least = opening_pivot-least o k le in
+    lane_from o g k [] (omega arith) (omega arith)
 
 all_lanes : (o : Opening) (k : ℕ) → k ≤ greatest_key → (t : Execution) → Valid o t → HasLanesOf o k t
 all_lanes o k le [] valid = record {
-  owned = λ g e.
-      let here : opening_group o k ≡ 0 =
-      ap (λ (y : Bool). cond y 0 (limits o).groups) (range_in 0 greatest_key k (omega arith) le) in
-      subst (λ (y : ℕ). HasSomeLane o y k []) (sym here ∙ e) (opened_lane o k);
+  owned = λ g e. subst (λ (y : ℕ). HasSomeLane o y k []) e (opened_lane o k le);
   awaited = λ g e. none_some e;
   before = λ g e. none_some e;
 }

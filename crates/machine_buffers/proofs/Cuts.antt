@@ -1,21 +1,23 @@
 -- The cuts of a buffer's lanes, and the keys of its group.
 use Rattle.std.proofs.Common.{◌≡◌, ◌≢◌, ℕ, zero, suc, ◌<◌, ◌≤◌, ◌⊎◌, inl, inr, ⊎_elim, Option}
-use Rattle.std.proofs.Common.{Some, None, Bool, true, false, [], ◌∷◌, ◌++◌, cond, length, refl, sym}
+use Rattle.std.proofs.Common.{Some, None, Bool, true, false, [], ◌∷◌, ◌++◌, cond, refl, sym}
 use Rattle.std.proofs.Common.{ap, ◌∙◌, subst, arith}
 use mathlib.Core.Logic.{dite}
 use native.Mathlib.Decide.{ℕ_discrete}
 use Rattle.index_machine.proofs.Executions.{choice-other}
 use Rattle.index_machine.proofs.Options.{none_some, some_is}
-use Rattle.index_machine.proofs.Ranges.{range_in}
+use Rattle.index_machine.proofs.Ranges.{in_range, range_in}
+use Rattle.index_machine.proofs.OfParts.{key_between, key_most}
+use Rattle.index_machine.specs.Keepers.{part_of}
 use Rattle.index_machine.specs.Conditions.{Allowed, Valid}
 use Rattle.index_machine.specs.Execution.{Execution, event}
 use Rattle.index_machine.specs.Groups.{phase, unless_named}
 use Rattle.index_machine.specs.KeyRanges.{group_of, predecessor, successor}
 use Rattle.index_machine.specs.Lanes.{begun_word, cut, lanes}
-use Rattle.index_machine.specs.OpeningRows.{keys_in}
-use Rattle.index_machine.specs.Openings.{greatest_key, opening_group, within}
+use Rattle.index_machine.specs.Openings.{within}
+use Rattle.word_layout.specs.Parts.{greatest_key}
 use Rattle.index_machine.specs.Permissions.{IsBufferFor}
-use Rattle.index_machine.specs.Words.{limits, word}
+use Rattle.index_machine.specs.Words.{word}
 use Rattle.index_machine.specs.declared.events.Action.{Action}
 use Rattle.index_machine.specs.declared.events.Action.TheVariants.{Install, NewGroup}
 use Rattle.index_machine.specs.declared.opening.Opening.{Opening}
@@ -28,7 +30,6 @@ use Rattle.machine_buffers.specs.Cuts.{BeginsOverACut, CutsAreKeys, CutsAreOfThe
 use Rattle.machine_buffers.specs.Cuts.{GroupsHaveLanesForTheirKeys, NewCutsAreOfTheGroup}
 use Rattle.machine_buffers.specs.Cuts.{OpeningCutsAreOfTheGroup}
 use Rattle.machine_buffers.specs.Groups.{Begins, IsKeyAtSomeStage, IsKeyOf, IsOutOfUse}
-use Rattle.rebuild_plan.specs.Plan.{lane_count}
 use Rattle.word_layout.specs.Words.{Header}
 use Rattle.word_layout.specs.declared.headers.HeaderWord.{HeaderWord}
 use Rattle.word_layout.specs.declared.headers.HeaderWord.TheVariants as header
@@ -84,10 +85,10 @@ begun_key : (o : Opening) (t : Execution) (b : ℕ) (d : Action) (g l : ℕ) →
 begun_key o t b d g l z = subst (λ (y : Action). Valid o (event b y ∷ t) →
     l < lanes o g (event b y ∷ t) → cut o g l (event b y ∷ t) ≤ greatest_key) (sym z.3)
     (λ valid lt. let most = (cut_new o b g z.0 z.1 z.2 t valid l lt).1 in
-    let up = valid.0.ordered.1 in omega arith)
+    let up = key_most o (part_of o g) z.1 valid.0.in_part.1 in omega arith)
 
 pub cuts_are_keys : CutsAreKeys
-cuts_are_keys o [] valid g l lt = opened_cut-key o g l
+cuts_are_keys o [] valid g l lt = (opened_cut-key o g l lt).0
 cuts_are_keys o (e ∷ t) valid g l lt = ⊎_elim
     (λ (z : Begins g e.action). begun_key o t e.by e.action g l z valid lt)
     (λ (never : Begins g e.action → ⊥).
@@ -99,15 +100,7 @@ cuts_are_keys o (e ∷ t) valid g l lt = ⊎_elim
 -- ---- cuts of the opening ----
 
 pub opening_cuts : OpeningCutsAreOfTheGroup
-opening_cuts o g = dite (ℕ_discrete g 0)
-    (λ (z : g ≡ 0). inl (λ l lt. inl (inl (inl (owned (cut o g l []) (opened_cut-key o g l) ∙ sym z)))))
-    (λ (n : g ≢ 0). inl (λ l lt.
-    let none : lanes o g [] ≡ 0 = choice-other g 0 (lane_count (length (keys_in o.rows))) 0 n in
-    absurd (omega arith)))
-  where
-    owned : (k : ℕ) → k ≤ greatest_key → opening_group o k ≡ 0
-    owned k le = ap (λ (y : Bool). cond y 0 (limits o).groups)
-        (range_in 0 greatest_key k (omega arith) le)
+opening_cuts o g = inl (λ l lt. inl (inl (inl (opened_cut-key o g l lt).1)))
 
 -- ---- cuts stay keys of the group ----
 
@@ -125,6 +118,14 @@ key_new : (o : Opening) (t : Execution) (b h low high f g k : ℕ) → Valid o t
     ⊎ IsOutOfUse o g (event b (NewGroup h low high f) ∷ t)
 key_new o t b h low high f g k valid may other over e = go (within low k high) refl
   where
+    -- the key would be of the part of the group that is begun, where no rebuild is under way
+    n_other : (i : ℕ) × (phase (group_of o k t) t ≡ Opened i) × (successor k t ≡ Some g) →
+        within low k high ≡ true → ⊥
+    n_other y here =
+        let range = in_range low high k here in
+        may.idle k y.0
+        (key_between o (part_of o h) low high k may.in_part.0 may.in_part.1 range.0 range.1) y.1
+
     T : Execution
     T = event b (NewGroup h low high f) ∷ t
 
@@ -146,7 +147,7 @@ key_new o t b h low high f g k valid may other over e = go (within low k high) r
         (λ (not : predecessor o k t ≡ Some g → ⊥). absurd (over here (λ is. ⊎_elim
         (λ (x : IsBufferFor o k g t). ⊎_elim (λ (y : group_of o k t ≡ g). n y)
         (λ (y : (i : ℕ) × (phase (group_of o k t) t ≡ Opened i) × (successor k t ≡ Some g)).
-        may.idle k y.0 y.1) x)
+        n_other y here) x)
         (λ (x : predecessor o k t ≡ Some g). not x) is)))
         (named_or_not (predecessor o k t) g))
 

@@ -76,7 +76,7 @@ link_stays o t b (StoreArray g p at value) q k may keyed =
     (keyless o t p q k (ap role_key may.unused) keyed))
 link_stays o t b (StoreRedirect g p j to) q k may keyed = inl (other_part (p == q) _ _)
 link_stays o t b (Install (NextOf left) first low high) q k may keyed = inl refl
-link_stays o t b (Install (FirstSlot side) first low high) q k may keyed = inl refl
+link_stays o t b (Install (FirstSlot part side) first low high) q k may keyed = inl refl
 link_stays o t b (Close p expected) q k may keyed = inl (other_part (p == q) _ _)
 link_stays o t b (Copy p value) q k may keyed = inl (other_part (p == q) _ _)
 link_stays o t b (StoreDirect p from j removed stored) q k may keyed =
@@ -137,7 +137,7 @@ lane_word_stays o t b (NewGroup h low high f) g which is never =
     other_header h g _ _ header.Pivot which (λ z e. subst IsLaneWord (sym e) is)
 lane_word_stays o t b (Install (NextOf left) first low high) g which is never =
     other_header left g _ _ header.Next which (λ z e. subst IsLaneWord (sym e) is)
-lane_word_stays o t b (Install (FirstSlot side) first low high) g which is never = refl
+lane_word_stays o t b (Install (FirstSlot part side) first low high) g which is never = refl
 lane_word_stays o t b (StoreHeader h at value) g which is never =
     other_header h g value _ at which (λ z e. never (inr (
       value,

@@ -11,7 +11,7 @@ use Rattle.index_machine.specs.Conditions.{Allowed, Valid}
 use Rattle.index_machine.specs.Execution.{Execution, event}
 use Rattle.index_machine.specs.Lanes.{HasLane, lanes}
 use Rattle.index_machine.specs.Rows.{HeldBy, InBuffer, role}
-use Rattle.index_machine.specs.Words.{limits, link_behind, word}
+use Rattle.index_machine.specs.Words.{shape, link_behind, word}
 use Rattle.index_machine.specs.declared.events.Action.TheVariants.{LinkRow, StoreHeader}
 use Rattle.index_machine.specs.declared.opening.Opening.{Opening}
 use Rattle.machine_buffers.proofs.BegunLanes.{lane_of, lanes_apart, range_of}
@@ -52,7 +52,7 @@ held_no_row e = cc
 -- a row has a place
 pub row_place : (o : Opening) (t : Execution) (g k q : ℕ) → Valid o t → role o q t ≡ InBuffer g k →
     q ≢ 0
-row_place o t g k q valid e = row-nonzero (limits o) q ((placed o t valid).buffered g k q e)
+row_place o t g k q valid e = row-nonzero (shape o) q ((placed o t valid).buffered g k q e)
 
 module _ (o : Opening) (t : Execution) (b h lane p : ℕ) (c : Change) (before next : ℕ)
     (valid : Valid o t) (may : Allowed o t b (LinkRow h lane p c before next))
@@ -64,7 +64,7 @@ module _ (o : Opening) (t : Execution) (b h lane p : ℕ) (c : Change) (before n
   T = event b (LinkRow h lane p c before next) ∷ t
 
   pub held_place : p ≢ 0
-  held_place = row-nonzero (limits o) p ((placed o t valid).held b p may.mine).0
+  held_place = row-nonzero (shape o) p ((placed o t valid).held b p may.mine).0
 
   -- the buffer is in use, so it is walkable
   walk : IsWalkable o h t

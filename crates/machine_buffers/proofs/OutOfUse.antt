@@ -18,9 +18,10 @@ use Rattle.index_machine.specs.declared.events.InstallWord.{InstallWord}
 use Rattle.index_machine.specs.declared.opening.Opening.{Opening}
 use Rattle.machine_barriers.proofs.OpenedGroups.{begun_back, frozen_not, gone_on, open_not}
 use Rattle.machine_barriers.proofs.OpenedGroups.{opened_back, opened_groups_hold}
-use Rattle.machine_buffers.specs.Groups.{Begins, FrozenAreChained, FrozenGroupsAnswer, IsOutOfUse}
+use Rattle.machine_buffers.specs.Groups.{Begins, FrozenGroupsAnswer, IsOutOfUse}
 use Rattle.machine_buffers.specs.Groups.{NewGroupsAreOpen, NewAreOpenOrChained, OpenedAreNotNew}
 use Rattle.machine_buffers.specs.Groups.{OpenedGroupsAreNotNew}
+use Rattle.index_machine.proofs.OfParts.{frozen_in_chain}
 use Rattle.index_machine.proofs.Options.{named_before, none_some, some_is}
 use Rattle.word_layout.specs.declared.phase.Phase.{Phase}
 use Rattle.word_layout.specs.declared.phase.Phase.TheVariants.{Frozen, Open, Opened}
@@ -67,46 +68,8 @@ phase_back o t b d g f e = inl e
 open_frozen : {X : Type 0} → Open ≡ Frozen → X
 open_frozen e = cc
 
-opened_frozen : {X : Type 0} {f : ℕ} → Opened f ≡ Frozen → X
-opened_frozen e = cc
-
-frozen_back : (h g : ℕ) (x y : Phase) → (x ≡ Frozen → ⊥) → cond (h == g) x y ≡ Frozen → y ≡ Frozen
-frozen_back h g x y never e = dite (ℕ_discrete h g)
-    (λ (z : h ≡ g). absurd (never (sym (choice-same h g x y z) ∙ e)))
-    (λ (n : h ≢ g). sym (choice-other h g x y n) ∙ e)
-
-frozen_unused : (i : ℕ) (x : Phase) → name_used_again i x ≡ Frozen → x ≡ Frozen
-frozen_unused i Open e = e
-frozen_unused i Frozen e = refl
-frozen_unused i (Opened f) e = dite (ℕ_discrete f i)
-    (λ (z : f ≡ i). open_frozen (sym (choice-same f i Open (Opened f) z) ∙ e))
-    (λ (n : f ≢ i). opened_frozen (sym (choice-other f i Open (Opened f) n) ∙ e))
-
-chained_step : (o : Opening) (t : Execution) (b : ℕ) (d : Action) → Allowed o t b d →
-    FrozenAreChained o t → FrozenAreChained o (event b d ∷ t)
-chained_step o t b (Freeze h) may old g e = dite (ℕ_discrete h g)
-    (λ (z : h ≡ g). let c = may.chained in (c.0, c.1 ∙ z))
-    (λ (n : h ≢ g). old g (sym (choice-other h g Frozen (phase g t) n) ∙ e))
-chained_step o t b (Thaw h) may old g e = old g (frozen_back h g Open (phase g t) open_frozen e)
-chained_step o t b (NewGroup h low high i) may old g e =
-    old g (frozen_unused h (phase g t)
-    (frozen_back h g Open (name_used_again h (phase g t)) open_frozen e))
-chained_step o t b (StoreOpened h i) may old g e =
-    old g (frozen_back h g (Opened i) (phase g t) opened_frozen e)
-chained_step o t b (Install spot lead low high) may old g e =
-    let m = old g e in (m.0, go m.0 m.1 (within low m.0 high) refl ∙ m.1)
-  where
-    go : (k : ℕ) → group_of o k t ≡ g → (w : Bool) → within low k high ≡ w →
-        group_of o k (event b (Install spot lead low high) ∷ t) ≡ group_of o k t
-    go k is false out = group_out o t b spot lead low high k out
-    go k is true in_range = let m = may.opened k in_range in
-        opened_frozen (sym m.2 ∙ (ap (λ (y : ℕ). phase y t) is ∙ e))
-chained_step o t b d may old g e = old g e
-
 pub frozen_are_chained : FrozenGroupsAnswer
-frozen_are_chained o [] valid = λ g e. open_frozen e
-frozen_are_chained o (e ∷ t) valid =
-    chained_step o t e.by e.action valid.0 (frozen_are_chained o t valid.1)
+frozen_are_chained o t valid = frozen_in_chain o t valid
 
 -- ---- new groups ----
 

@@ -10,7 +10,8 @@ use Rattle.index_machine.specs.declared.opening.Opening.{Opening}
 use Rattle.index_machine.specs.Execution.{Execution, event}
 use Rattle.index_machine.specs.KeyRanges.{successor}
 use Rattle.index_machine.specs.Lanes.{cut, lanes}
-use Rattle.index_machine.specs.Openings.{greatest_key, within}
+use Rattle.index_machine.specs.Openings.{within}
+use Rattle.word_layout.specs.Parts.{greatest_key}
 use Rattle.index_machine.specs.Conditions.{Valid}
 use Rattle.machine_buffers.specs.Groups.{IsKeyAtSomeStage, IsKeyOf, IsOutOfUse}
 

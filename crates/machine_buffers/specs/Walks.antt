@@ -18,7 +18,7 @@ use Rattle.index_machine.specs.Rows.{InBuffer, role}
 use Rattle.index_machine.specs.declared.events.Action.{Action}
 use Rattle.index_machine.specs.declared.events.Action.TheVariants.{Retire, StoreHeader}
 use Rattle.index_machine.specs.KeyRanges.{group_of, predecessor}
-use Rattle.index_machine.specs.Openings.{greatest_key}
+use Rattle.word_layout.specs.Parts.{greatest_key}
 use Rattle.index_machine.specs.Permissions.{IsReplaced}
 use Rattle.index_machine.specs.Reaching.{stands_in}
 use Rattle.index_machine.specs.RecordConditions.{IsLinkInto}

@@ -5,12 +5,15 @@ use Rattle.std.proofs.Common.{Some, None}
 use Rattle.std.proofs.Common.{true, false, ◌∷◌, refl, sym, ap, ◌∙◌, subst, arith}
 use mathlib.Core.Logic.{dite}
 use native.Mathlib.Decide.{ℕ_discrete}
+use Rattle.machine_chain.proofs.PartKeys.{key_lies, next_key}
+use Rattle.machine_chain.specs.Chain.{end_of}
 use Rattle.index_machine.proofs.Executions.{choice-other}
 use Rattle.index_machine.specs.Conditions.{Allowed, Valid}
 use Rattle.index_machine.specs.Execution.{Execution, event}
 use Rattle.index_machine.specs.Groups.{phase}
 use Rattle.index_machine.specs.KeyRanges.{group_of, predecessor, remembered, unless_opened}
-use Rattle.index_machine.specs.Openings.{greatest_key, within}
+use Rattle.index_machine.specs.Openings.{within}
+use Rattle.word_layout.specs.Parts.{greatest_key}
 use Rattle.index_machine.specs.Permissions.{AreGone, IsGone, IsReachable}
 use Rattle.index_machine.specs.Reaching.{stands_in}
 use Rattle.index_machine.specs.Sections.{IsCaller}
@@ -64,34 +67,46 @@ answers_on o t b d j g valid may there a = a
 -- from a key of the group on, the next key at which the group changes
 abbrev pub Scan : Opening → (ℕ → ℕ) → ℕ → ℕ → Execution → Type 0
 Scan o M g j t =
-    ((next_of o g t ≡ 0) × ((m : ℕ) → j ≤ m → m ≤ greatest_key → M m ≡ g))
-    ⊎ ((i : ℕ) × (j ≤ i) × (i < greatest_key) × (next_of o g t ≡ M (i + 1) + 1)
+    ((next_of o g t ≡ 0) × ((m : ℕ) → j ≤ m → m ≤ end_of o j → M m ≡ g))
+    ⊎ ((i : ℕ) × (j ≤ i) × (i < end_of o j) × (next_of o g t ≡ M (i + 1) + 1)
     × (pivot_of o (M (i + 1)) t ≡ i + 1) × ((m : ℕ) → j ≤ m → m ≤ i → M m ≡ g))
 
 module _ (o : Opening) (t : Execution) (M : ℕ → ℕ) (g : ℕ)
-    (step : (i : ℕ) → i < greatest_key → M i ≡ g → M (i + 1) ≢ g →
+    (step : (i : ℕ) → i < end_of o i → M i ≡ g → M (i + 1) ≢ g →
     (next_of o g t ≡ M (i + 1) + 1) × (pivot_of o (M (i + 1)) t ≡ i + 1))
-    (last : M greatest_key ≡ g → next_of o g t ≡ 0) where
+    (last : (k : ℕ) → k ≡ end_of o k → M k ≡ g → next_of o g t ≡ 0) where
   one_key : (j m : ℕ) → M j ≡ g → j ≤ m → m ≤ j → M m ≡ g
   one_key j m is a c = let e : j ≡ m = omega (arith, a, c) in ap M (sym e) ∙ is
 
-  pub scan : (d j : ℕ) → j + d ≡ greatest_key → M j ≡ g → Scan o M g j t
+  pub scan : (d j : ℕ) → j + d ≡ end_of o j → M j ≡ g → Scan o M g j t
   scan zero j e is =
-      let top : j ≡ greatest_key = omega (arith, e) in
-      inl (last (ap M (sym top) ∙ is), λ m a c. one_key j m is a (omega (arith, c, top)))
+      let top : j ≡ end_of o j = omega (arith, e) in
+      inl (last j top is, λ m a c. one_key j m is a (omega (arith, c, top)))
   scan (suc d) j e is = dite (ℕ_discrete (M (j + 1)) g)
       (λ (z : M (j + 1) ≡ g). ⊎_elim
-      (λ (y : (next_of o g t ≡ 0) × ((m : ℕ) → j + 1 ≤ m → m ≤ greatest_key → M m ≡ g)).
-      inl (y.0, λ m a c. more m (λ lt. y.1 m lt c) a))
-      (λ (y : (i : ℕ) × (j + 1 ≤ i) × (i < greatest_key) × (next_of o g t ≡ M (i + 1) + 1)
+      (λ (y : (next_of o g t ≡ 0) × ((m : ℕ) → j + 1 ≤ m → m ≤ end_of o (j + 1) → M m ≡ g)).
+      inl (y.0, λ m a c. more m (λ lt. y.1 m lt (omega (arith, c, same))) a))
+      (λ (y : (i : ℕ) × (j + 1 ≤ i) × (i < end_of o (j + 1)) × (next_of o g t ≡ M (i + 1) + 1)
       × (pivot_of o (M (i + 1)) t ≡ i + 1) × ((m : ℕ) → j + 1 ≤ m → m ≤ i → M m ≡ g)).
-      let le = y.1 in
-      inr (y.0, omega (arith, le), y.2, y.3, y.4, λ m a c. more m (λ lt. y.5 m lt c) a))
-      (scan d (j + 1) (omega (arith, e)) z))
+      let le = y.1 in let below = y.2 in
+      inr (
+        y.0,
+        omega (arith, le),
+        omega (arith, below, same),
+        y.3,
+        y.4,
+        λ m a c. more m (λ lt. y.5 m lt c) a,
+      ))
+      (scan d (j + 1) (omega (arith, e, same)) z))
       (λ (n : M (j + 1) ≢ g).
-      let lt : j < greatest_key = omega (arith, e) in
       let s = step j lt is n in inr (j, omega arith, lt, s.0, s.1, λ m a c. one_key j m is a c))
     where
+      lt : j < end_of o j
+      lt = omega (arith, e)
+
+      same : end_of o (j + 1) ≡ end_of o j
+      same = (next_key o j lt).1
+
       more : (m : ℕ) → (j + 1 ≤ m → M m ≡ g) → j ≤ m → M m ≡ g
       more m then a = dite (ℕ_discrete j m)
           (λ (z : j ≡ m). ap M (sym z) ∙ is)
@@ -105,15 +120,15 @@ scan_leads : (o : Opening) (t : Execution) (c g k : ℕ) (M : ℕ → ℕ) →
     ((m : ℕ) → IsReachable o c (M m) t) → Scan o M g k t → LeadsOn o c g k t
 scan_leads o t c g k M answers reach s = record {
   end = λ e m a top. ⊎_elim
-      (λ (z : (next_of o g t ≡ 0) × ((m : ℕ) → k ≤ m → m ≤ greatest_key → M m ≡ g)).
+      (λ (z : (next_of o g t ≡ 0) × ((m : ℕ) → k ≤ m → m ≤ end_of o k → M m ≡ g)).
       answers m g (z.1 m a top))
-      (λ (z : (i : ℕ) × (k ≤ i) × (i < greatest_key) × (next_of o g t ≡ M (i + 1) + 1)
+      (λ (z : (i : ℕ) × (k ≤ i) × (i < end_of o k) × (next_of o g t ≡ M (i + 1) + 1)
       × (pivot_of o (M (i + 1)) t ≡ i + 1) × ((m : ℕ) → k ≤ m → m ≤ i → M m ≡ g)).
       let bad : 0 ≡ M (z.0 + 1) + 1 = sym e ∙ z.3 in absurd (omega (arith, bad))) s;
   next = λ n e. ⊎_elim
-      (λ (z : (next_of o g t ≡ 0) × ((m : ℕ) → k ≤ m → m ≤ greatest_key → M m ≡ g)).
+      (λ (z : (next_of o g t ≡ 0) × ((m : ℕ) → k ≤ m → m ≤ end_of o k → M m ≡ g)).
       let bad : 0 ≡ n + 1 = sym z.0 ∙ e in absurd (omega (arith, bad)))
-      (λ (z : (i : ℕ) × (k ≤ i) × (i < greatest_key) × (next_of o g t ≡ M (i + 1) + 1)
+      (λ (z : (i : ℕ) × (k ≤ i) × (i < end_of o k) × (next_of o g t ≡ M (i + 1) + 1)
       × (pivot_of o (M (i + 1)) t ≡ i + 1) × ((m : ℕ) → k ≤ m → m ≤ i → M m ≡ g)).
       let both : M (z.0 + 1) + 1 ≡ n + 1 = sym z.3 ∙ e in
       let is : M (z.0 + 1) ≡ n = omega (arith, both) in (
@@ -125,27 +140,27 @@ scan_leads o t c g k M answers reach s = record {
         λ m a top. answers m g (z.5 m a top),
       )) s;
   reach = λ n e. ⊎_elim
-      (λ (z : (next_of o g t ≡ 0) × ((m : ℕ) → k ≤ m → m ≤ greatest_key → M m ≡ g)).
+      (λ (z : (next_of o g t ≡ 0) × ((m : ℕ) → k ≤ m → m ≤ end_of o k → M m ≡ g)).
       let bad : 0 ≡ n + 1 = sym z.0 ∙ e in absurd (omega (arith, bad)))
-      (λ (z : (i : ℕ) × (k ≤ i) × (i < greatest_key) × (next_of o g t ≡ M (i + 1) + 1)
+      (λ (z : (i : ℕ) × (k ≤ i) × (i < end_of o k) × (next_of o g t ≡ M (i + 1) + 1)
       × (pivot_of o (M (i + 1)) t ≡ i + 1) × ((m : ℕ) → k ≤ m → m ≤ i → M m ≡ g)).
       let both : M (z.0 + 1) + 1 ≡ n + 1 = sym z.3 ∙ e in
       let is : M (z.0 + 1) ≡ n = omega (arith, both) in
       subst (λ (y : ℕ). IsReachable o c y t) is (reach (z.0 + 1))) s;
 }
 
--- how far it is to the greatest key
-pub to_top : (k : ℕ) → k ≤ greatest_key → (d : ℕ) × (k + d ≡ greatest_key)
-to_top k le = (greatest_key - k, omega (arith, le))
+-- how far it is to the greatest key of the part
+pub to_top : (o : Opening) (k : ℕ) → k ≤ greatest_key → (d : ℕ) × (k + d ≡ end_of o k)
+to_top o k le = let lies = key_lies o k le in (end_of o k - k, omega (arith, lies.1))
 
 pub chain_scan : (o : Opening) (t : Execution) (g k : ℕ) → Valid o t → k ≤ greatest_key →
     group_of o k t ≡ g → Scan o (λ m. group_of o m t) g k t
 chain_scan o t g k valid le is =
     let chain = groups_chained o t valid in
-    let d = to_top k le in
+    let d = to_top o k le in
     scan o t (λ m. group_of o m t) g
     (λ i lt e n. chain.next i g (group_of o (i + 1) t) lt e refl (λ z. n (sym z)))
-    (λ e. chain.last g e) d.0 k d.1 is
+    (λ j ends e. chain.last j g ends e) d.0 k d.1 is
 
 pub chain_leads : (o : Opening) (t : Execution) (c g k : ℕ) → Valid o t → k ≤ greatest_key →
     group_of o k t ≡ g → LeadsOn o c g k t
@@ -191,12 +206,12 @@ old_leads o t c g k valid is s was le =
 
     go : (f : ℕ) → phase g t ≡ Opened f → OldAreChained o f t → LeadsOn o c g k t
     go f at old =
-        let d = to_top k le in
+        let d = to_top o k le in
         scan_leads o t c g k (λ m. group_before o f m t) (answers f) (λ m. reach f m at)
         (scan o t (λ m. group_before o f m t) g
         (λ i lt e n. old.next i g (group_before o f (i + 1) t) lt (is_old f i at e) refl
         (λ z. n (sym z)))
-        (λ e. old.last g (is_old f greatest_key at e)) d.0 k d.1
+        (λ j ends e. old.last j g ends (is_old f j at e)) d.0 k d.1
         (before_is o f k g t (was, at)))
 
 -- a group that answers for a key, or did, leads on where a caller stands

@@ -6,10 +6,10 @@ use Rattle.index_machine.specs.Conditions.{Allowed, Valid}
 use Rattle.index_machine.specs.Execution.{Execution, event}
 use Rattle.index_machine.specs.Groups.{phase, rebuild}
 use Rattle.index_machine.specs.KeyRanges.{group_of, successor}
-use Rattle.index_machine.specs.Openings.{greatest_key, opening_group, within}
+use Rattle.index_machine.specs.Openings.{opening_group, within}
+use Rattle.word_layout.specs.Parts.{greatest_key}
 use Rattle.index_machine.specs.Permissions.{AreGone}
-use Rattle.index_machine.specs.RebuildConditions.{IsInstallWord, MayInstall}
-use Rattle.index_machine.specs.Words.{limits}
+use Rattle.index_machine.specs.RebuildConditions.{IsInstallWord, MayInstall, part_of_spot}
 use Rattle.index_machine.specs.declared.events.Action.{Action}
 use Rattle.index_machine.specs.declared.events.Action.TheVariants.{Install}
 use Rattle.index_machine.specs.declared.events.InstallWord.{InstallWord}
@@ -21,7 +21,20 @@ use Rattle.machine_chain.proofs.Cases.{both_ways, in_or_out, le_or_lt}
 use Rattle.machine_chain.proofs.UnderWay.{under_way_holds}
 use Rattle.machine_chain.proofs.Words.{chained_next, chained_pivot, never}
 use Rattle.machine_chain.proofs.Words.{next_same}
-use Rattle.machine_chain.specs.Chain.{IsChained, next_of, pivot_of}
+use Rattle.machine_chain.specs.Chain.{IsChained, end_of, next_of, pivot_of, start_of}
+use Rattle.machine_chain.proofs.PartKeys.{end_is_key, next_key, part_of_key, same_part}
+use Rattle.index_machine.specs.Keepers.{IsKeyIn, first_key, last_key, part_of}
+use Rattle.index_machine.specs.Sections.{IsHand}
+use Rattle.index_machine.specs.Words.{shape}
+use Rattle.index_machine.specs.OpeningRows.{opening_pivot}
+use Rattle.index_machine.proofs.OfParts.{group_exists, group_in_part, key_between, key_in_part, key_most}
+use Rattle.index_machine.proofs.OfParts.{opened_in_part, spot_is_part}
+use Rattle.index_machine.proofs.OpeningGroups.{opening_group-chain, opening_group-part}
+use Rattle.index_machine.proofs.OpeningRows.{first_group_for-key}
+use Rattle.word_layout.specs.Parts.{first_key_of, part_with}
+use Rattle.word_layout.specs.Shape.{first_group_of}
+use Rattle.word_layout.proofs.KeySpace.{first_key-within}
+use Rattle.word_layout.proofs.PartGroups.{part_with-within}
 use Rattle.index_machine.proofs.Options.{some_is}
 use Rattle.word_layout.specs.declared.phase.Phase.TheVariants.{Opened}
 
@@ -32,15 +45,16 @@ pub install_keys : (o : Opening) (t : Execution) (b : ℕ) (spot : InstallWord) 
     MayInstall o t b spot lead low high → (low ≤ high) × (high ≤ greatest_key)
 install_keys o t b spot lead low high may =
     let r = in_range low high low may.first.0 in
-    let m = may.opened high (range_in low high high r.1 (omega arith)) in (
-      r.1,
-      ⊎_elim
-          (λ (z : (high ≡ greatest_key) × (next_of o m.1 t ≡ 0)).
-          let e = z.0 in omega (arith, e))
-          (λ (z : (high < greatest_key) × (next_of o m.1 t ≡ group_of o (high + 1) t + 1)).
-          let e = z.0 in omega (arith, e))
-          (may.ends m.1 m.3),
-    )
+    (r.1, key_most o (part_of_spot o spot) high may.in_part.1)
+
+-- they lie in one part, which begins and ends where theirs do
+pub install_part : (o : Opening) (t : Execution) (b : ℕ) (spot : InstallWord) (lead low high k : ℕ) →
+    IsHand o b → MayInstall o t b spot lead low high → low ≤ k → k ≤ high →
+    (start_of o k ≡ first_key o (part_of_spot o spot))
+    × (end_of o k ≡ last_key o (part_of_spot o spot))
+install_part o t b spot lead low high k is_hand may above below =
+    part_of_key o (part_of_spot o spot) k (spot_is_part o t b spot lead low high is_hand may)
+    (key_between o (part_of_spot o spot) low high k may.in_part.0 may.in_part.1 above below)
 
 -- an install by the next word of a group
 abbrev pub InstallsBehind : ℕ → InstallWord → Type 0
@@ -62,17 +76,33 @@ before_low low high k j e le = ⊎_elim
     (λ (z : within low k high ≡ true). let r = in_range low high k z in absurd (omega (arith, r.0)))
     (λ (z : within low k high ≡ false). z) (in_or_out (within low k high))
 
-left_boundary : (o : Opening) (t : Execution) (b : ℕ) (spot : InstallWord)
-    (lead low high g : ℕ) → MayInstall o t b spot lead low high → IsChained o t →
-    InstallsBehind g spot →
-    (next_of o g t ≡ group_of o low t + 1) × (pivot_of o (group_of o low t) t ≡ low)
-left_boundary o t b spot lead low high g may old e =
-    let l = left_of o t b spot lead low high g may e in
+-- the key before the first one is of the same part
+pub left_in_part : (o : Opening) (t : Execution) (b : ℕ) (spot : InstallWord) (lead low high g j : ℕ) →
+    Valid o t → IsHand o b → MayInstall o t b spot lead low high → InstallsBehind g spot →
+    low ≡ j + 1 → group_of o j t ≡ g → j < end_of o j
+left_in_part o t b spot lead low high g j valid is_hand may e next at =
     let keys = install_keys o t b spot lead low high may in
+    let is_part = spot_is_part o t b spot lead low high is_hand may in
+    let part : part_of o g ≡ part_of_spot o spot = sym (ap (part_of_spot o) e) in
+    let exists = group_exists o t j valid (omega (arith, keys.0, keys.1, next)) in
+    let here : IsKeyIn o (part_of_spot o spot) j =
+    subst (λ (p : ℕ). IsKeyIn o p j) (ap (part_of o) at ∙ part) (key_in_part o t j valid exists)
+    in
+    let ends = (part_of_key o (part_of_spot o spot) j is_part here).1 in
+    let low_in = may.in_part.0.to in
+    omega (arith, next, ends, low_in)
+
+left_boundary : (o : Opening) (t : Execution) (b : ℕ) (spot : InstallWord)
+    (lead low high g : ℕ) → Valid o t → IsHand o b → MayInstall o t b spot lead low high →
+    IsChained o t → InstallsBehind g spot →
+    (next_of o g t ≡ group_of o low t + 1) × (pivot_of o (group_of o low t) t ≡ low)
+left_boundary o t b spot lead low high g valid is_hand may old e =
+    let l = left_of o t b spot lead low high g may e in
+    let inner = left_in_part o t b spot lead low high g l.0 valid is_hand may e l.1 l.2 in
     let out : within low l.0 high ≡ false = before_low low high l.0 l.0 l.1 (omega arith) in
     let apart : g ≢ group_of o low t = λ z.
     both_ways may.first.0 (sym (may.whole l.0 low (l.2 ∙ z)) ∙ out) in
-    let m = old.next l.0 g (group_of o low t) (omega (arith, keys.0, keys.1, l.1)) l.2
+    let m = old.next l.0 g (group_of o low t) inner l.2
     (ap (λ (y : ℕ). group_of o y t) (sym l.1)) apart in
     (m.0, m.1 ∙ sym l.1)
 
@@ -80,7 +110,7 @@ pub install_pivot : (o : Opening) (t : Execution) (b : ℕ) (spot : InstallWord)
     (lead low high g : ℕ) →
     pivot_of o g (event b (Install spot lead low high) ∷ t) ≡ pivot_of o g t
 install_pivot o t b (NextOf left) lead low high g = never (left == g) _ (pivot_of o g t)
-install_pivot o t b (FirstSlot s) lead low high g = refl
+install_pivot o t b (FirstSlot q s) lead low high g = refl
 
 pub install_next : (o : Opening) (t : Execution) (b lead low high g : ℕ) →
     next_of o g (event b (Install (NextOf g) lead low high) ∷ t) ≡ lead + 1
@@ -89,12 +119,21 @@ install_next o t b lead low high g = rw (eq-eqb g g refl) refl
 -- ---- the induction at an install ----
 
 module _ (o : Opening) (t : Execution) (b : ℕ) (spot : InstallWord) (lead low high : ℕ)
-    (valid : Valid o t) (may : MayInstall o t b spot lead low high) (old : IsChained o t) where
+    (valid : Valid o t) (is_hand : IsHand o b) (may : MayInstall o t b spot lead low high)
+    (old : IsChained o t) where
   abbrev pub T : Execution
   T = event b (Install spot lead low high) ∷ t
 
   keys : (low ≤ high) × (high ≤ greatest_key)
   keys = install_keys o t b spot lead low high may
+
+  -- the groups that go are of the part
+  of_spot : (k : ℕ) → within low k high ≡ true → part_of o (group_of o k t) ≡ part_of_spot o spot
+  of_spot k here =
+      let r = in_range low high k here in
+      group_in_part o t (part_of_spot o spot) k valid
+      (spot_is_part o t b spot lead low high is_hand may)
+      (key_between o (part_of_spot o spot) low high k may.in_part.0 may.in_part.1 r.0 r.1)
 
   -- a new group is in no key range yet
   new_unchained : (k g f j : ℕ) → phase (group_of o k t) t ≡ Opened f → rebuild g t ≡ Some f →
@@ -119,14 +158,14 @@ module _ (o : Opening) (t : Execution) (b : ℕ) (spot : InstallWord) (lead low 
   out_of : (k : ℕ) → within low k high ≡ false → group_of o k T ≡ group_of o k t
   out_of k out = group_out o t b spot lead low high k out
 
-  both_out : (k g h : ℕ) → k < greatest_key → group_of o k T ≡ g → group_of o (k + 1) T ≡ h →
+  both_out : (k g h : ℕ) → k < end_of o k → group_of o k T ≡ g → group_of o (k + 1) T ≡ h →
       g ≢ h → within low k high ≡ false → within low (k + 1) high ≡ false →
       (next_of o g T ≡ h + 1) × (pivot_of o h T ≡ k + 1)
   both_out k g h lt is at n out out1 =
       let is' : group_of o k t ≡ g = sym (out_of k out) ∙ is in
       let at' : group_of o (k + 1) t ≡ h = sym (out_of (k + 1) out1) ∙ at in
       let m = old.next k g h lt is' at' n in (
-        next_on g (λ z. let l = left_boundary o t b spot lead low high g may old z in
+        next_on g (λ z. let l = left_boundary o t b spot lead low high g valid is_hand may old z in
             let eq : group_of o low t + 1 ≡ h + 1 = sym l.0 ∙ m.0 in
             let same : group_of o low t ≡ h = omega (arith, eq) in
             let key : low ≡ k + 1 = sym l.1 ∙ (ap (λ (y : ℕ). pivot_of o y t) same ∙ m.1) in
@@ -134,7 +173,7 @@ module _ (o : Opening) (t : Execution) (b : ℕ) (spot : InstallWord) (lead low 
         install_pivot o t b spot lead low high h ∙ m.1,
       )
 
-  into : (k g h : ℕ) → k < greatest_key → group_of o k T ≡ g → group_of o (k + 1) T ≡ h →
+  into : (k g h : ℕ) → k < end_of o k → group_of o k T ≡ g → group_of o (k + 1) T ≡ h →
       within low k high ≡ false → within low (k + 1) high ≡ true →
       (next_of o g T ≡ h + 1) × (pivot_of o h T ≡ k + 1)
   into k g h lt is at out here =
@@ -147,21 +186,26 @@ module _ (o : Opening) (t : Execution) (b : ℕ) (spot : InstallWord) (lead low 
       ap (λ (y : ℕ). successor y t) (sym key) ∙ may.first.1 in
       let new : lead ≡ h = sym (group_in o t b spot lead low high (k + 1) lead here led) ∙ at in
       let is' : group_of o k t ≡ g = sym (out_of k out) ∙ is in (
-        stored spot may.leads key is' ∙ ap (λ (y : ℕ). y + 1) new,
+        stored spot may.leads (install_part o t b spot lead low high (k + 1) is_hand may r.0 r.1).0 key is'
+            ∙ ap (λ (y : ℕ). y + 1) new,
         install_pivot o t b spot lead low high h
             ∙ (ap (λ (y : ℕ). pivot_of o y t) (sym new) ∙ (may.starts ∙ key)),
       )
     where
-      stored : (s : InstallWord) → IsInstallWord o t low s → low ≡ k + 1 → group_of o k t ≡ g →
+      stored : (s : InstallWord) → IsInstallWord o t low s →
+          start_of o (k + 1) ≡ first_key o (part_of_spot o s) → low ≡ k + 1 → group_of o k t ≡ g →
           next_of o g (event b (Install s lead low high) ∷ t) ≡ lead + 1
-      stored (FirstSlot side) l key is' = let z = l.0 in absurd (omega (arith, key, z))
-      stored (NextOf left) l key is' =
+      stored (FirstSlot part side) l starts key is' =
+          let same = next_key o k lt in
+          let first = l.0 in
+          absurd (omega (arith, key, first, starts, same.0, same.2))
+      stored (NextOf left) l starts key is' =
           let e : l.0 ≡ k = omega (arith, key, l.1) in
           let same : left ≡ g = sym l.2 ∙ (ap (λ (y : ℕ). group_of o y t) e ∙ is') in
           subst (λ (y : ℕ). next_of o g (event b (Install (NextOf y) lead low high) ∷ t) ≡ lead + 1)
           (sym same) (install_next o t b lead low high g)
 
-  out_again : (k g h : ℕ) → k < greatest_key → group_of o k T ≡ g → group_of o (k + 1) T ≡ h →
+  out_again : (k g h : ℕ) → k < end_of o k → group_of o k T ≡ g → group_of o (k + 1) T ≡ h →
       within low k high ≡ true → within low (k + 1) high ≡ false →
       (next_of o g T ≡ h + 1) × (pivot_of o h T ≡ k + 1)
   out_again k g h lt is at here out =
@@ -180,9 +224,11 @@ module _ (o : Opening) (t : Execution) (b : ℕ) (spot : InstallWord) (lead low 
       both_ways here (may.whole k (k + 1) (z ∙ sym at') ∙ out) in
       let p = old.next k (group_of o k t) h lt refl at' apart in (
         new_next k g here made ∙ ⊎_elim
-            (λ (z : (high ≡ greatest_key) × (next_of o g t ≡ 0)).
-            let y = z.0 in absurd (omega (arith, lt, key, y)))
-            (λ (z : (high < greatest_key) × (next_of o g t ≡ group_of o (high + 1) t + 1)).
+            (λ (z : (high ≡ last_key o (part_of_spot o spot)) × (next_of o g t ≡ 0)).
+            let mine = (install_part o t b spot lead low high k is_hand may r.0 r.1).1 in
+            absurd (omega (arith, lt, key, z.0, mine)))
+            (λ (z : (high < last_key o (part_of_spot o spot))
+            × (next_of o g t ≡ group_of o (high + 1) t + 1)).
             z.1 ∙ ap (λ (y : ℕ). y + 1) (ap (λ (y : ℕ). group_of o (y + 1) t) key ∙ at')) e,
         install_pivot o t b spot lead low high h ∙ p.1,
       )
@@ -195,10 +241,14 @@ module _ (o : Opening) (t : Execution) (b : ℕ) (spot : InstallWord) (lead low 
       let new : m.1 ≡ g = sym (group_in o t b spot lead low high k m.1 here m.3) ∙ is in
       let new1 : l.1 ≡ h = sym (group_in o t b spot lead low high (k + 1) l.1 here1 l.3) ∙ at in
       let under = under_way_holds o t valid m.0 (k, m.2) in
+      let in_one : part_of o (group_of o (k + 1) t) ≡ part_of o m.0 =
+      of_spot (k + 1) here1 ∙ (sym (of_spot k here)
+      ∙ sym (opened_in_part o t valid (group_of o k t) m.0 m.2))
+      in
       let same : l.0 ≡ m.0 = ⊎_elim
       (λ (z : (l.0 ≡ m.0) × ((j : ℕ) × (group_of o j t ≡ group_of o (k + 1) t))). z.0)
       (λ (z : AreGone o l.0 t). absurd ((z (group_of o (k + 1) t) l.2).unowned (k + 1) refl))
-      (under.alone (group_of o (k + 1) t) l.0 l.2) in
+      (under.alone (group_of o (k + 1) t) l.0 in_one l.2) in
       let sg : successor k t ≡ Some g = m.3 ∙ ap Some new in
       let c = under.chained k g h (ap (λ (y : ℕ). rebuild y t) (sym new) ∙ m.4)
       (ap (λ (y : ℕ). rebuild y t) (sym new1) ∙ (l.4 ∙ ap Some same)) sg (l.3 ∙ ap Some new1) n in (
@@ -218,38 +268,42 @@ module _ (o : Opening) (t : Execution) (b : ℕ) (spot : InstallWord) (lead low 
         (λ (out1 : within low (k + 1) high ≡ false). both_out k g h lt is at n out out1)
         (in_or_out (within low (k + 1) high)))
         (in_or_out (within low k high));
-    first = λ g is. ⊎_elim
-        (λ (here : within low 0 high ≡ true).
-        let r = in_range low high 0 here in
-        let zero_low : low ≡ 0 = omega (arith, r.0) in
-        let led : successor 0 t ≡ Some lead =
-        ap (λ (y : ℕ). successor y t) (sym zero_low) ∙ may.first.1 in
-        let new : lead ≡ g = sym (group_in o t b spot lead low high 0 lead here led) ∙ is in
+    first = λ k g starts is. ⊎_elim
+        (λ (here : within low k high ≡ true).
+        let r = in_range low high k here in
+        let mine = (install_part o t b spot lead low high k is_hand may r.0 r.1).0 in
+        let from = may.in_part.0.from in
+        let first_low : low ≡ k = omega (arith, r.0, starts, mine, from) in
+        let led : successor k t ≡ Some lead =
+        ap (λ (y : ℕ). successor y t) (sym first_low) ∙ may.first.1 in
+        let new : lead ≡ g = sym (group_in o t b spot lead low high k lead here led) ∙ is in
         install_pivot o t b spot lead low high g
-        ∙ (ap (λ (y : ℕ). pivot_of o y t) (sym new) ∙ (may.starts ∙ zero_low)))
-        (λ (out : within low 0 high ≡ false).
-        install_pivot o t b spot lead low high g ∙ old.first g (sym (out_of 0 out) ∙ is))
-        (in_or_out (within low 0 high));
-    last = λ g is. ⊎_elim
-        (λ (here : within low greatest_key high ≡ true).
-        let r = in_range low high greatest_key here in
-        let key : high ≡ greatest_key = omega (arith, r.1, keys.1) in
-        let m = may.opened greatest_key here in
-        let new : m.1 ≡ g =
-        sym (group_in o t b spot lead low high greatest_key m.1 here m.3) ∙ is in
-        let made : successor greatest_key t ≡ Some g = m.3 ∙ ap Some new in
-        new_next greatest_key g here made ∙ ⊎_elim
-        (λ (z : (high ≡ greatest_key) × (next_of o g t ≡ 0)). z.1)
-        (λ (z : (high < greatest_key) × (next_of o g t ≡ group_of o (high + 1) t + 1)).
-        let y = z.0 in absurd (omega (arith, key, y)))
+        ∙ (ap (λ (y : ℕ). pivot_of o y t) (sym new) ∙ (may.starts ∙ first_low)))
+        (λ (out : within low k high ≡ false).
+        install_pivot o t b spot lead low high g ∙ old.first k g starts (sym (out_of k out) ∙ is))
+        (in_or_out (within low k high));
+    last = λ k g ends is. ⊎_elim
+        (λ (here : within low k high ≡ true).
+        let r = in_range low high k here in
+        let mine = (install_part o t b spot lead low high k is_hand may r.0 r.1).1 in
+        let to = may.in_part.1.to in
+        let key : high ≡ k = omega (arith, r.1, ends, mine, to) in
+        let m = may.opened k here in
+        let new : m.1 ≡ g = sym (group_in o t b spot lead low high k m.1 here m.3) ∙ is in
+        let made : successor k t ≡ Some g = m.3 ∙ ap Some new in
+        new_next k g here made ∙ ⊎_elim
+        (λ (z : (high ≡ last_key o (part_of_spot o spot)) × (next_of o g t ≡ 0)). z.1)
+        (λ (z : (high < last_key o (part_of_spot o spot))
+        × (next_of o g t ≡ group_of o (high + 1) t + 1)).
+        absurd (omega (arith, key, ends, mine, z.0)))
         (may.ends g (ap (λ (y : ℕ). successor y t) key ∙ made)))
-        (λ (out : within low greatest_key high ≡ false).
-        let is' : group_of o greatest_key t ≡ g = sym (out_of greatest_key out) ∙ is in
-        next_on g (λ z. let l = left_boundary o t b spot lead low high g may old z in
-        let bad : 0 ≡ group_of o low t + 1 = sym (old.last g is') ∙ l.0 in
+        (λ (out : within low k high ≡ false).
+        let is' : group_of o k t ≡ g = sym (out_of k out) ∙ is in
+        next_on g (λ z. let l = left_boundary o t b spot lead low high g valid is_hand may old z in
+        let bad : 0 ≡ group_of o low t + 1 = sym (old.last k g ends is') ∙ l.0 in
         absurd (omega (arith, bad)))
-        greatest_key (inl is') ∙ old.last g is')
-        (in_or_out (within low greatest_key high));
+        k (inl is') ∙ old.last k g ends is')
+        (in_or_out (within low k high));
   }
 
 -- ---- the other actions ----
@@ -268,29 +322,54 @@ module _ (o : Opening) (t : Execution) (b : ℕ) (d : Action) (may : Allowed o t
         let at' : group_of o (k + 1) t ≡ h = sym (groups (k + 1)) ∙ at in
         let m = old.next k g h lt is' at' n in
         (still_next g k is' ∙ m.0, chained_pivot o t b d h (k + 1) may at' ∙ m.1);
-    first = λ g is. let is' : group_of o 0 t ≡ g = sym (groups 0) ∙ is in
-        chained_pivot o t b d g 0 may is' ∙ old.first g is';
-    last = λ g is. let is' : group_of o greatest_key t ≡ g = sym (groups greatest_key) ∙ is in
-        still_next g greatest_key is' ∙ old.last g is';
+    first = λ k g starts is. let is' : group_of o k t ≡ g = sym (groups k) ∙ is in
+        chained_pivot o t b d g k may is' ∙ old.first k g starts is';
+    last = λ k g ends is. let is' : group_of o k t ≡ g = sym (groups k) ∙ is in
+        still_next g k is' ∙ old.last k g ends is';
   }
 
-chain_step : (o : Opening) (t : Execution) (b : ℕ) (d : Action) → Valid o t → Allowed o t b d →
+chain_step : (o : Opening) (t : Execution) (b : ℕ) (d : Action) → Valid o (event b d ∷ t) →
     IsChained o t → IsChained o (event b d ∷ t)
-chain_step o t b (Install spot lead low high) valid may old =
-    chain_install o t b spot lead low high valid may old
-chain_step o t b d valid may old =
-    chain_kept o t b d may (λ k. refl) (λ spot lead low high z. let bad = z in cc) old
+chain_step o t b (Install spot lead low high) valid old =
+    chain_install o t b spot lead low high valid.1 valid.2 valid.0 old
+chain_step o t b d valid old =
+    chain_kept o t b d valid.0 (λ k. refl) (λ spot lead low high z. let bad = z in cc) old
 
-pub opening_is : (o : Opening) (k : ℕ) → k ≤ greatest_key → opening_group o k ≡ 0
-opening_is o k le = ap (λ (w : Bool). cond w 0 (limits o).groups)
-    (range_in 0 greatest_key k (omega arith) le)
+-- at the opening all keys of a part have one group
+opening_same : (o : Opening) (k : ℕ) → k < end_of o k → opening_group o k ≡ opening_group o (k + 1)
+opening_same o k lt =
+    let most = end_is_key o k in
+    let same = same_part o k (k + 1) (let least = (next_key o k lt).2 in omega arith) (omega arith) in
+    first_group_for-key (shape o) k (omega (arith, lt, most))
+    ∙ (ap (first_group_of (shape o)) (sym same)
+    ∙ sym (first_group_for-key (shape o) (k + 1) (omega (arith, lt, most))))
+
+-- what begins or ends a part is a key
+boundary_key : (o : Opening) (k : ℕ) → (k ≡ start_of o k) ⊎ (k ≡ end_of o k) → k ≤ greatest_key
+boundary_key o k = ⊎_elim
+    (λ (z : k ≡ start_of o k).
+    omega (
+      arith,
+      z,
+      first_key-within (shape o).bounds (part_with (shape o).bounds k) o.layout.cut
+          (part_with-within (shape o).bounds k),
+    ))
+    (λ (z : k ≡ end_of o k). omega (arith, z, end_is_key o k))
+
+-- the pivot of its group is the part's least key
+opening_first : (o : Opening) (k : ℕ) → k ≡ start_of o k → pivot_of o (opening_group o k) [] ≡ k
+opening_first o k starts =
+    let key = boundary_key o k (inl starts) in
+    let g : ℕ = opening_group o k in
+    ap (λ (w : Bool). cond w (opening_pivot o g) 0) (opening_group-chain o k key)
+    ∙ (ap (first_key_of (shape o).bounds) (opening_group-part o k key) ∙ sym starts)
 
 pub groups_chained : (o : Opening) (t : Execution) → Valid o t → IsChained o t
 groups_chained o [] valid = record {
-  next = λ k g h lt is at n. absurd (n (sym is ∙ (opening_is o k (omega (arith, lt))
-      ∙ (sym (opening_is o (k + 1) (omega (arith, lt))) ∙ at))));
-  first = λ g is. refl;
-  last = λ g is. refl;
+  next = λ k g h lt is at n. absurd (n (sym is ∙ (opening_same o k lt ∙ at)));
+  first = λ k g starts is.
+      ap (λ (y : ℕ). pivot_of o y []) (sym is) ∙ opening_first o k starts;
+  last = λ k g ends is. refl;
 }
 groups_chained o (e ∷ t) valid =
-    chain_step o t e.by e.action valid.1 valid.0 (groups_chained o t valid.1)
+    chain_step o t e.by e.action valid (groups_chained o t valid.1)

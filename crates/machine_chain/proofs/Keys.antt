@@ -2,13 +2,19 @@
 -- for none.
 use Rattle.std.proofs.Common.{◌≡◌, ℕ, ◌<◌, ◌≤◌, ◌⊎◌, ⊎_elim, Some, Bool, true}
 use Rattle.std.proofs.Common.{false, [], ◌∷◌, refl, sym, ap, ◌∙◌, subst, cond, arith}
+use Rattle.word_layout.specs.Shape.{group_total}
+use Rattle.std.proofs.lemmas.Bool.{lt-leb}
+use Rattle.index_machine.proofs.OfParts.{key_most, some_group}
+use Rattle.index_machine.proofs.OpeningRows.{first_group_for-exists}
+use Rattle.index_machine.specs.Keepers.{part_of}
 use Rattle.index_machine.specs.Conditions.{Allowed, Valid}
 use Rattle.index_machine.specs.Execution.{Execution, event}
 use Rattle.index_machine.specs.Groups.{phase, rebuild, unless_named}
 use Rattle.index_machine.specs.KeyRanges.{group_of, predecessor, successor}
-use Rattle.index_machine.specs.Openings.{greatest_key, within}
+use Rattle.index_machine.specs.Openings.{within}
+use Rattle.word_layout.specs.Parts.{greatest_key}
 use Rattle.index_machine.specs.RebuildConditions.{MayInstall}
-use Rattle.index_machine.specs.Words.{limits}
+use Rattle.index_machine.specs.Words.{shape}
 use Rattle.index_machine.specs.declared.events.Action.{Action}
 use Rattle.index_machine.specs.declared.events.Action.TheVariants.{Install, NewGroup, StoreHeader}
 use Rattle.index_machine.specs.declared.events.InstallWord.{InstallWord}
@@ -18,7 +24,7 @@ use Rattle.machine_barriers.proofs.OpenedGroups.{open_not}
 use Rattle.machine_barriers.proofs.Reaches.{may_as}
 use Rattle.machine_buffers.proofs.OutOfUse.{group_in, group_out}
 use Rattle.machine_chain.proofs.Chained.{install_keys, left_of}
-use Rattle.index_machine.proofs.Ranges.{in_range, range_in}
+use Rattle.index_machine.proofs.Ranges.{in_range}
 use Rattle.machine_chain.proofs.Cases.{both_ways, in_or_out}
 use Rattle.machine_chain.proofs.UnderWay.{under_way_holds}
 use Rattle.machine_chain.proofs.Words.{ChangesNext, next_kept}
@@ -46,24 +52,24 @@ install_spot e = cc
 
 -- the number behind the last group has no next word
 none_on : (o : Opening) (t : Execution) (b : ℕ) (d : Action) → Allowed o t b d →
-    KeysHaveGroups o t → next_of o (limits o).groups (event b d ∷ t) ≡ 0
+    KeysHaveGroups o t → next_of o (group_total (shape o)) (event b d ∷ t) ≡ 0
 none_on o t b d may old = ⊎_elim
-    (λ (z : next_of o (limits o).groups (event b d ∷ t) ≡ next_of o (limits o).groups t).
+    (λ (z : next_of o (group_total (shape o)) (event b d ∷ t) ≡ next_of o (group_total (shape o)) t).
     z ∙ old.none_behind)
-    (λ (z : ChangesNext (limits o).groups d). ⊎_elim
-    (λ (y : (v : ℕ) × (d ≡ StoreHeader (limits o).groups header.Next v)).
-    let m = may_as o t b d (StoreHeader (limits o).groups header.Next y.0) y.1 may in
+    (λ (z : ChangesNext (group_total (shape o)) d). ⊎_elim
+    (λ (y : (v : ℕ) × (d ≡ StoreHeader (group_total (shape o)) header.Next v)).
+    let m = may_as o t b d (StoreHeader (group_total (shape o)) header.Next y.0) y.1 may in
     let bad = m.exists in absurd (omega (arith, bad)))
     (λ (y : (lead : ℕ) × (low : ℕ) × (high : ℕ)
-    × (d ≡ Install (NextOf (limits o).groups) lead low high)).
-    let m = may_as o t b d (Install (NextOf (limits o).groups) y.0 y.1 y.2) y.3 may in
-    let keys = install_keys o t b (NextOf (limits o).groups) y.0 y.1 y.2 m in
-    let l = left_of o t b (NextOf (limits o).groups) y.0 y.1 y.2 (limits o).groups m refl in
+    × (d ≡ Install (NextOf (group_total (shape o))) lead low high)).
+    let m = may_as o t b d (Install (NextOf (group_total (shape o))) y.0 y.1 y.2) y.3 may in
+    let keys = install_keys o t b (NextOf (group_total (shape o))) y.0 y.1 y.2 m in
+    let l = left_of o t b (NextOf (group_total (shape o))) y.0 y.1 y.2 (group_total (shape o)) m refl in
     let low_is = l.1 in
     let lt = old.within l.0 (omega (arith, keys.0, keys.1, low_is)) in
-    let bad : (limits o).groups < (limits o).groups =
-    subst (λ (x : ℕ). x < (limits o).groups) l.2 lt in absurd (omega (arith, bad)))
-    z) (next_kept o t b d (limits o).groups)
+    let bad : (group_total (shape o)) < group_total (shape o) =
+    subst (λ (x : ℕ). x < group_total (shape o)) l.2 lt in absurd (omega (arith, bad)))
+    z) (next_kept o t b d (group_total (shape o)))
 
 keys_step : (o : Opening) (t : Execution) (b : ℕ) (d : Action) → Allowed o t b d →
     KeysHaveGroups o t → KeysHaveGroups o (event b d ∷ t)
@@ -79,10 +85,10 @@ keys_step o t b (Install spot lead low high) may old =
       within = λ k le. ⊎_elim
           (λ (here : within low k high ≡ true).
           let m = may.opened k here in
-          subst (λ (y : ℕ). y < (limits o).groups)
+          subst (λ (y : ℕ). y < group_total (shape o))
           (sym (group_in o t b spot lead low high k m.1 here m.3)) (old.new k m.1 m.3).1)
           (λ (out : within low k high ≡ false).
-          subst (λ (y : ℕ). y < (limits o).groups)
+          subst (λ (y : ℕ). y < group_total (shape o))
           (sym (group_out o t b spot lead low high k out)) (old.within k le))
           (in_or_out (within low k high));
       new = λ k g e. old.new k g e;
@@ -104,14 +110,14 @@ keys_step o t b (NewGroup h low high f) may old = record {
   where
     new : (k g : ℕ) → successor k (event b (NewGroup h low high f) ∷ t) ≡ Some g →
         (within low k high ≡ true) ⊎ (within low k high ≡ false) →
-        (k ≤ greatest_key) × (g < (limits o).groups)
+        (k ≤ greatest_key) × (g < group_total (shape o))
     new k g e w = ⊎_elim
         (λ (here : within low k high ≡ true).
         let r = in_range low high k here in
         let is : h ≡ g = some_is (sym (ap
         (λ (y : Bool). cond y (Some h) (unless_named h (successor k t))) here) ∙ e) in
-        let top = may.ordered in
-        (omega (arith, r.1, top.1), subst (λ (y : ℕ). y < (limits o).groups) is may.exists))
+        let top = key_most o (part_of o h) high may.in_part.1 in
+        (omega (arith, r.1, top), subst (λ (y : ℕ). y < group_total (shape o)) is may.exists))
         (λ (out : within low k high ≡ false).
         old.new k g (named_before h (successor k t) g (sym (ap
         (λ (y : Bool). cond y (Some h) (unless_named h (successor k t))) out) ∙ e)).1) w
@@ -124,17 +130,11 @@ keys_step o t b d may old = record {
 }
 
 -- every table has a group
-pub keys_have_groups : (o : Opening) (t : Execution) → Valid o t → 0 < (limits o).groups →
+pub keys_have_groups : (o : Opening) (t : Execution) → Valid o t → 0 < group_total (shape o) →
     KeysHaveGroups o t
 keys_have_groups o [] valid some = record {
-  beyond = λ k lt. ap (λ (w : Bool). cond w 0 (limits o).groups) (⊎_elim
-      (λ (z : within 0 k greatest_key ≡ true).
-      let r = in_range 0 greatest_key k z in absurd (omega (arith, lt, r.1)))
-      (λ (z : within 0 k greatest_key ≡ false). z) (in_or_out (within 0 k greatest_key)));
-  within = λ k le. subst (λ (y : ℕ). y < (limits o).groups)
-      (sym (ap (λ (w : Bool). cond w 0 (limits o).groups)
-      (range_in 0 greatest_key k (omega arith) le)))
-      some;
+  beyond = λ k lt. rw (lt-leb k greatest_key lt) refl;
+  within = λ k le. first_group_for-exists (shape o) k (some_group o) le;
   new = λ k g e. none_some e;
   none_behind = refl;
   old = λ k g e. none_some e;

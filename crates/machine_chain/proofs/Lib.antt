@@ -1,3 +1,4 @@
+pub mod PartKeys
 pub mod Cases
 pub mod Words
 pub mod UnderWay

@@ -3,13 +3,22 @@ use Rattle.std.proofs.Common.{◌≡◌, ◌≢◌, ℕ, ◌+◌, ◌⊎◌, inl
 use Rattle.std.proofs.Common.{true, false, [], ◌∷◌, refl, sym, ap, ◌∙◌, subst, arith}
 use mathlib.Core.Logic.{dite}
 use native.Mathlib.Decide.{ℕ_discrete}
+use Rattle.index_machine.proofs.OfParts.{before_in_part, group_in_part, key_between, opened_in_part, spot_is_part}
+use Rattle.index_machine.specs.Keepers.{part_of}
+use Rattle.index_machine.specs.Sections.{IsHand}
+use Rattle.index_machine.specs.RebuildConditions.{part_of_spot}
+use Rattle.index_machine.specs.Words.{shape}
+use Rattle.word_layout.specs.Parts.{part_with}
+use Rattle.word_layout.proofs.PartGroups.{part_with-key}
+use Rattle.machine_chain.proofs.PartKeys.{key_lies, next_part, same_part}
+use Rattle.machine_chain.proofs.Chained.{install_part}
 use Rattle.index_machine.proofs.Executions.{choice-other}
 use Rattle.index_machine.specs.Conditions.{Allowed, Valid}
 use Rattle.index_machine.specs.Execution.{Execution, event}
 use Rattle.index_machine.specs.Groups.{phase, rebuild}
 use Rattle.index_machine.specs.KeyRanges.{group_of, predecessor, remembered, successor}
 use Rattle.index_machine.specs.KeyRanges.{unless_opened}
-use Rattle.index_machine.specs.Openings.{greatest_key, within}
+use Rattle.index_machine.specs.Openings.{within}
 use Rattle.index_machine.specs.Permissions.{AreGone, IsGone}
 use Rattle.index_machine.specs.RebuildConditions.{IsSettled, MayInstall}
 use Rattle.index_machine.specs.declared.events.Action.{Action}
@@ -44,8 +53,10 @@ use Rattle.word_layout.specs.declared.phase.Phase.TheVariants.{Frozen, Open, Ope
 
 -- ---- what keeps them ----
 
-module _ (o : Opening) (t : Execution) (b : ℕ) (d : Action) (f : ℕ) (may : Allowed o t b d)
-    (groups : (k : ℕ) → group_of o k (event b d ∷ t) ≡ group_of o k t)
+module _ (o : Opening) (t : Execution) (b : ℕ) (d : Action) (f : ℕ) (valid : Valid o t)
+    (may : Allowed o t b d)
+    (groups : (k : ℕ) → part_with (shape o).bounds k ≡ part_of o f →
+    group_of o k (event b d ∷ t) ≡ group_of o k t)
     (back : (k g : ℕ) → IsOldOf o f k g (event b d ∷ t) → IsOldOf o f k g t)
     (forth : (k g : ℕ) → IsOldOf o f k g t → IsOldOf o f k g (event b d ∷ t))
     (next_on : (k g : ℕ) → IsOldOf o f k g t →
@@ -55,13 +66,19 @@ module _ (o : Opening) (t : Execution) (b : ℕ) (d : Action) (f : ℕ) (may : A
   abbrev pub T : Execution
   T = event b d ∷ t
 
-  before_same : (k : ℕ) → group_before o f k T ≡ group_before o f k t
-  before_same k = ⊎_elim
+  -- a key that an old group had is of the rebuild's part
+  of_part : (k g : ℕ) → IsOldOf o f k g t → part_with (shape o).bounds k ≡ part_of o f
+  of_part k g is =
+      sym (before_in_part o t valid k g is.0).1 ∙ sym (opened_in_part o t valid g f is.1)
+
+  before_same : (k : ℕ) → part_with (shape o).bounds k ≡ part_of o f →
+      group_before o f k T ≡ group_before o f k t
+  before_same k part = ⊎_elim
       (λ (z : (g : ℕ) × IsOldOf o f k g t).
       before_is o f k z.0 T (forth k z.0 z.1) ∙ sym (before_is o f k z.0 t z.1))
       (λ (nope : (g : ℕ) → IsOldOf o f k g t → ⊥).
       before_else o f k T (λ g is. nope g (back k g is))
-      ∙ (groups k ∙ sym (before_else o f k t nope)))
+      ∙ (groups k part ∙ sym (before_else o f k t nope)))
       (old_or_not o f k t)
 
   before_pivot : (k h : ℕ) → group_before o f k t ≡ h → pivot_of o h T ≡ pivot_of o h t
@@ -76,22 +93,31 @@ module _ (o : Opening) (t : Execution) (b : ℕ) (d : Action) (f : ℕ) (may : A
   pub old_kept : OldAreChained o f t → OldAreChained o f T
   old_kept old = record {
     next = λ k g h lt is at n.
-        let at' : group_before o f (k + 1) t ≡ h = sym (before_same (k + 1)) ∙ at in
-        let m = old.next k g h lt (back k g is) at' n in
-        (next_on k g (back k g is) ∙ m.0, before_pivot (k + 1) h at' ∙ m.1);
+        let was = back k g is in
+        let at' : group_before o f (k + 1) t ≡ h =
+        sym (before_same (k + 1) (next_part o k lt ∙ of_part k g was)) ∙ at
+        in
+        let m = old.next k g h lt was at' n in
+        (next_on k g was ∙ m.0, before_pivot (k + 1) h at' ∙ m.1);
     left = λ k g lt is n.
-        pivot_on (k + 1) g (back (k + 1) g is)
-        ∙ old.left k g lt (back (k + 1) g is) (λ z. n (before_same k ∙ z));
-    least = λ g is. pivot_on 0 g (back 0 g is) ∙ old.least g (back 0 g is);
-    last = λ g is. next_on greatest_key g (back greatest_key g is)
-        ∙ old.last g (back greatest_key g is);
-    lead = λ k g is. let m = old.lead k g (back k g is) in (m.0, m.1, groups m.0 ∙ m.2);
+        let was = back (k + 1) g is in
+        pivot_on (k + 1) g was
+        ∙ old.left k g lt was
+        (λ z. n (before_same k (sym (next_part o k lt) ∙ of_part (k + 1) g was) ∙ z));
+    least = λ k g starts is. pivot_on k g (back k g is) ∙ old.least k g starts (back k g is);
+    last = λ k g ends is. next_on k g (back k g is) ∙ old.last k g ends (back k g is);
+    lead = λ k g is.
+        let was = back k g is in
+        let m = old.lead k g was in
+        let most = (before_in_part o t valid k g was.0).0 in
+        let same = same_part o k m.0 m.3 (let lies = key_lies o k most in omega (arith, m.1, lies.1)) in
+        (m.0, m.1, groups m.0 (same ∙ of_part k g was) ∙ m.2, m.3);
   }
 
 -- ---- at an install ----
 
 module _ (o : Opening) (t : Execution) (b : ℕ) (spot : InstallWord) (lead low high : ℕ)
-    (valid : Valid o t) (may : MayInstall o t b spot lead low high) where
+    (valid : Valid o t) (is_hand : IsHand o b) (may : MayInstall o t b spot lead low high) where
   abbrev pub U : Execution
   U = event b (Install spot lead low high) ∷ t
 
@@ -104,17 +130,32 @@ module _ (o : Opening) (t : Execution) (b : ℕ) (spot : InstallWord) (lead low 
   not_gone : {X : Type 0} → AreGone o named t → X
   not_gone all = absurd ((all (group_of o low t) opened_low).unowned low refl)
 
-  -- all groups that are opened are of this rebuild, or gone
-  is_named : (g f : ℕ) → phase g t ≡ Opened f → (f ≡ named) ⊎ AreGone o f t
-  is_named g f at = ⊎_elim (λ (z : (f ≡ named) × ((k : ℕ) × (group_of o k t ≡ g))). inl z.0)
+  -- the rebuild is of the part
+  named_part : part_of o named ≡ part_of_spot o spot
+  named_part =
+      opened_in_part o t valid (group_of o low t) named opened_low
+      ∙ group_in_part o t (part_of_spot o spot) low valid
+      (spot_is_part o t b spot lead low high is_hand may) may.in_part.0
+
+  -- all groups of the part that are opened are of this rebuild, or gone
+  is_named : (g f : ℕ) → part_of o g ≡ part_of_spot o spot → phase g t ≡ Opened f →
+      (f ≡ named) ⊎ AreGone o f t
+  is_named g f part at = ⊎_elim (λ (z : (f ≡ named) × ((k : ℕ) × (group_of o k t ≡ g))). inl z.0)
       (λ (z : AreGone o f t). inr z)
-      ((under_way_holds o t valid named (low, opened_low)).alone g f at)
+      ((under_way_holds o t valid named (low, opened_low)).alone g f (part ∙ sym named_part) at)
+
+  of_spot : (k : ℕ) → within low k high ≡ true → part_of o (group_of o k t) ≡ part_of_spot o spot
+  of_spot k here =
+      let r = in_range low high k here in
+      group_in_part o t (part_of_spot o spot) k valid
+      (spot_is_part o t b spot lead low high is_hand may)
+      (key_between o (part_of_spot o spot) low high k may.in_part.0 may.in_part.1 r.0 r.1)
 
   opened_in : (k : ℕ) → within low k high ≡ true → phase (group_of o k t) t ≡ Opened named
   opened_in k here = let m = may.opened k here in
       ⊎_elim (λ (z : m.0 ≡ named). m.2 ∙ ap (λ (y : ℕ). Opened y) z)
       (λ (z : AreGone o m.0 t). absurd ((z (group_of o k t) m.2).unowned k refl))
-      (is_named (group_of o k t) m.0 m.2)
+      (is_named (group_of o k t) m.0 (of_spot k here) m.2)
 
   was_in : (k g : ℕ) → IsOldOf o named k g U →
       (within low k high ≡ true) × (group_of o k t ≡ g)
@@ -128,7 +169,8 @@ module _ (o : Opening) (t : Execution) (b : ℕ) (spot : InstallWord) (lead low 
       (λ (z : (named ≡ named) × ((j : ℕ) × (group_of o j t ≡ g))).
       old_unchained o t valid k g z.1.0 was z.1.1)
       (λ (z : AreGone o named t). not_gone z)
-      ((under_way_holds o t valid named (low, opened_low)).alone g named is.1)))
+      ((under_way_holds o t valid named (low, opened_low)).alone g named
+      (sym (opened_in_part o t valid g named is.1)) is.1)))
       (in_or_out (within low k high))
 
   was_before : (k : ℕ) → group_before o named k U ≡ group_of o k t
@@ -162,24 +204,82 @@ module _ (o : Opening) (t : Execution) (b : ℕ) (spot : InstallWord) (lead low 
             let w = was_in (k + 1) g is in
             let m = chain.next k (group_of o k t) g lt refl w.1 (λ z. n (was_before k ∙ z)) in
             install_pivot o t b spot lead low high g ∙ m.1;
-        least = λ g is. install_pivot o t b spot lead low high g ∙ chain.first g (was_in 0 g is).1;
-        last = λ g is. let w = was_in greatest_key g is in
-            next_was greatest_key g w.0 w.1 ∙ chain.last g w.1;
+        least = λ k g starts is.
+            install_pivot o t b spot lead low high g ∙ chain.first k g starts (was_in k g is).1;
+        last = λ k g ends is. let w = was_in k g is in
+            next_was k g w.0 w.1 ∙ chain.last k g ends w.1;
         lead = λ k g is.
             let r = in_range low high k (was_in k g is).0 in
             let m = may.opened low may.first.0 in
             let new : m.1 ≡ lead = some_is (sym m.3 ∙ may.first.1) in
             let name : lead ≡ named =
             some_is (sym may.named ∙ (ap (λ (y : ℕ). rebuild y t) (sym new) ∙ m.4)) in
-            (low, r.0, group_in o t b spot lead low high low lead may.first.0 may.first.1 ∙ name);
+            let starts = (install_part o t b spot lead low high k is_hand may r.0 r.1).0 in
+            let from = may.in_part.0.from in (
+              low,
+              r.0,
+              group_in o t b spot lead low high low lead may.first.0 may.first.1 ∙ name,
+              omega (arith, starts, from),
+            );
       }
 
-  pub after_install : (f : ℕ) → AreGone o f U ⊎ OldAreChained o f U
-  after_install f = dite (ℕ_discrete f named)
+  -- the old groups of a rebuild of another part stay as they are
+  elsewhere : (f : ℕ) → part_of o f ≢ part_of_spot o spot → OldAreChained o f t → OldAreChained o f U
+  elsewhere f apart old =
+      old_kept o t b (Install spot lead low high) f valid may
+      (λ k part. group_out o t b spot lead low high k (out k part))
+      (λ k g is. back k g is (in_or_out (within low k high)))
+      (λ k g is. (before_out o t b spot lead low high k (out k (was_part k g is)) ∙ is.0, is.1))
+      (λ k g is. ⊎_elim (λ (z : next_of o g U ≡ next_of o g t). z)
+      (λ (y : ChangesNext g (Install spot lead low high)). absurd (⊎_elim
+      (λ x. let bad = x.1 in cc)
+      (λ (x : (l : ℕ) × (s : ℕ) × (e : ℕ) × (Install spot lead low high ≡ Install (NextOf g) l s e)).
+      apart (opened_in_part o t valid g f is.1 ∙ sym (ap (part_of_spot o) (install_spot x.3)))) y))
+      (next_kept o t b (Install spot lead low high) g))
+      (λ k g is. install_pivot o t b spot lead low high g) old
+    where
+      was_part : (k g : ℕ) → IsOldOf o f k g t → part_with (shape o).bounds k ≡ part_of o f
+      was_part k g is =
+          sym (before_in_part o t valid k g is.0).1 ∙ sym (opened_in_part o t valid g f is.1)
+
+      out : (k : ℕ) → part_with (shape o).bounds k ≡ part_of o f → within low k high ≡ false
+      out k part = ⊎_elim
+          (λ (here : within low k high ≡ true).
+          let r = in_range low high k here in
+          let theirs =
+          part_with-key (shape o).bounds (part_of_spot o spot) k o.layout.cut
+          (spot_is_part o t b spot lead low high is_hand may)
+          (key_between o (part_of_spot o spot) low high k may.in_part.0 may.in_part.1 r.0 r.1)
+          in
+          absurd (apart (sym part ∙ theirs)))
+          (λ (no : within low k high ≡ false). no) (in_or_out (within low k high))
+
+      back : (k g : ℕ) → IsOldOf o f k g U → (within low k high ≡ true) ⊎ (within low k high ≡ false) →
+          IsOldOf o f k g t
+      back k g is w = ⊎_elim
+          (λ (here : within low k high ≡ true).
+          let was : group_of o k t ≡ g =
+          some_is (sym (before_in o t b spot lead low high k here) ∙ is.0)
+          in
+          absurd (apart (opened_in_part o t valid g f is.1
+          ∙ (ap (part_of o) (sym was) ∙ of_spot k here))))
+          (λ (no : within low k high ≡ false).
+          (sym (before_out o t b spot lead low high k no) ∙ is.0, is.1)) w
+
+  pub after_install : (f : ℕ) → AreGone o f t ⊎ OldAreChained o f t →
+      AreGone o f U ⊎ OldAreChained o f U
+  after_install f old = dite (ℕ_discrete f named)
       (λ (z : f ≡ named). inr (subst (λ (y : ℕ). OldAreChained o y U) (sym z) old_install))
-      (λ (n : f ≢ named). inl (λ g at. ⊎_elim (λ (z : f ≡ named). absurd (n z))
+      (λ (n : f ≢ named). dite (ℕ_discrete (part_of o f) (part_of_spot o spot))
+      (λ (same : part_of o f ≡ part_of_spot o spot).
+      inl (λ g at. ⊎_elim (λ (z : f ≡ named). absurd (n z))
       (λ (all : AreGone o f t). gone_on o t b (Install spot lead low high) may
-      (opened_groups_hold o t valid) g f at all) (is_named g f at)))
+      (opened_groups_hold o t valid) g f at all)
+      (is_named g f (sym (opened_in_part o t valid g f at) ∙ same) at)))
+      (λ (apart : part_of o f ≢ part_of_spot o spot). ⊎_elim
+      (λ (all : AreGone o f t).
+      inl (all_gone_on o t b (Install spot lead low high) f valid may (λ g e. e) all))
+      (λ (z : OldAreChained o f t). inr (elsewhere f apart z)) old))
 
 -- ---- the other actions ----
 
@@ -188,16 +288,16 @@ module _ (o : Opening) (t : Execution) (b : ℕ) (d : Action) (f : ℕ) (valid :
     (may : Allowed o t b d)
     (groups : (k : ℕ) → group_of o k (event b d ∷ t) ≡ group_of o k t)
     (olds : (k : ℕ) → predecessor o k (event b d ∷ t) ≡ predecessor o k t)
-    (phases : (g i : ℕ) → phase g (event b d ∷ t) ≡ Opened i → phase g t ≡ Opened i)
+    (phases : (g : ℕ) → phase g (event b d ∷ t) ≡ Opened f → phase g t ≡ Opened f)
     (no_header : (g v : ℕ) (which : HeaderWord) → d ≢ StoreHeader g which v)
     (no_new : (g low high i : ℕ) → d ≢ NewGroup g low high i)
     (no_install : (spot : InstallWord) (lead low high : ℕ) → d ≢ Install spot lead low high) where
   pub old_on : AreGone o f t ⊎ OldAreChained o f t →
       AreGone o f (event b d ∷ t) ⊎ OldAreChained o f (event b d ∷ t)
   old_on old = ⊎_elim
-      (λ (all : AreGone o f t). inl (all_gone_on o t b d f valid may (λ g e. phases g f e) all))
-      (λ (z : OldAreChained o f t). inr (old_kept o t b d f may groups
-      (λ k g is. (sym (olds k) ∙ is.0, phases g f is.1))
+      (λ (all : AreGone o f t). inl (all_gone_on o t b d f valid may (λ g e. phases g e) all))
+      (λ (z : OldAreChained o f t). inr (old_kept o t b d f valid may (λ k part. groups k)
+      (λ k g is. (sym (olds k) ∙ is.0, phases g is.1))
       (λ k g is. (
         olds k ∙ is.0,
         ⊎_elim (λ (y : phase g (event b d ∷ t) ≡ Opened f). y)
@@ -227,7 +327,7 @@ old_header o t b h v f which valid may old = ⊎_elim
     inl (on (z.1 f at)))
     (λ z. no_open_open z.0 at) may.stage)
     (λ (n : phase h t ≢ Opened f). ⊎_elim (λ (all : AreGone o f t). inl (on all))
-    (λ (z : OldAreChained o f t). inr (old_kept o t b (StoreHeader h which v) f may (λ k. refl)
+    (λ (z : OldAreChained o f t). inr (old_kept o t b (StoreHeader h which v) f valid may (λ k part. refl)
     (λ k g is. is) (λ k g is. is)
     (λ k g is. ⊎_elim (λ (y : next_of o g T ≡ next_of o g t). y)
     (λ (y : ChangesNext g (StoreHeader h which v)). absurd (⊎_elim
@@ -259,7 +359,7 @@ old_new o t b n low high i f valid may old = dite (ℕ_discrete f n)
     (λ (unlike : f ≢ n). ⊎_elim
     (λ (at : phase n t ≡ Opened f). inl (on (may.settled f at)))
     (λ (not_old : phase n t ≢ Opened f). ⊎_elim (λ (all : AreGone o f t). inl (on all))
-    (λ (z : OldAreChained o f t). inr (old_kept o t b (NewGroup n low high i) f may (λ k. refl)
+    (λ (z : OldAreChained o f t). inr (old_kept o t b (NewGroup n low high i) f valid may (λ k part. refl)
     (λ k g is. (
       (remembered_back t b n low high i g (predecessor o k t) is.0).0,
       (begun_back n g (phase g t) f is.1).2,
@@ -303,20 +403,19 @@ old_new o t b n low high i f valid may old = dite (ℕ_discrete f n)
         ∙ choice-other f n None (Some g) unlike))
 
 old_opened : (o : Opening) (t : Execution) (b h i f : ℕ) → Valid o t →
-    Allowed o t b (StoreOpened h i) →
+    Allowed o t b (StoreOpened h i) → AreGone o f t ⊎ OldAreChained o f t →
     AreGone o f (event b (StoreOpened h i) ∷ t)
     ⊎ OldAreChained o f (event b (StoreOpened h i) ∷ t)
-old_opened o t b h i f valid may = dite (ℕ_discrete i f)
+old_opened o t b h i f valid may old = dite (ℕ_discrete i f)
     (λ (z : i ≡ f). inr (nothing z))
-    (λ (n : i ≢ f). inl (all_gone_on o t b (StoreOpened h i) f valid may (back n)
-    (λ g at. ⊎_elim (λ (z : f ≡ i). absurd (n (sym z))) (λ (z : IsGone o g t). z)
-    (may.only g f at))))
+    (λ (n : i ≢ f).
+    old_on o t b (StoreOpened h i) f valid may (λ k. refl) (λ k. refl)
+    (λ g at. (opened_back h g (Opened i) (phase g t) f (λ z. n (opened_is z)) at).1)
+    (λ g v which z. let bad = z in cc) (λ g low high x z. let bad = z in cc)
+    (λ spot lead low high z. let bad = z in cc) old)
   where
     T : Execution
     T = event b (StoreOpened h i) ∷ t
-
-    back : i ≢ f → (g : ℕ) → phase g T ≡ Opened f → phase g t ≡ Opened f
-    back n g at = (opened_back h g (Opened i) (phase g t) f (λ z. n (opened_is z)) at).1
 
     none : i ≡ f → (k g : ℕ) → IsOldOf o f k g T → ⊥
     none z k g is =
@@ -331,35 +430,35 @@ old_opened o t b h i f valid may = dite (ℕ_discrete i f)
     nothing z = record {
       next = λ k g h lt is at n. absurd (none z k g is);
       left = λ k g lt is n. absurd (none z (k + 1) g is);
-      least = λ g is. absurd (none z 0 g is);
-      last = λ g is. absurd (none z greatest_key g is);
+      least = λ k g starts is. absurd (none z k g is);
+      last = λ k g ends is. absurd (none z k g is);
       lead = λ k g is. absurd (none z k g is);
     }
 
-old_step : (o : Opening) (t : Execution) (b : ℕ) (d : Action) (f : ℕ) → Valid o t →
-    Allowed o t b d → AreGone o f t ⊎ OldAreChained o f t →
+old_step : (o : Opening) (t : Execution) (b : ℕ) (d : Action) (f : ℕ) → Valid o (event b d ∷ t) →
+    AreGone o f t ⊎ OldAreChained o f t →
     AreGone o f (event b d ∷ t) ⊎ OldAreChained o f (event b d ∷ t)
-old_step o t b (Install spot lead low high) f valid may old =
-    after_install o t b spot lead low high valid may f
-old_step o t b (StoreOpened h i) f valid may old = old_opened o t b h i f valid may
-old_step o t b (NewGroup n low high i) f valid may old =
-    old_new o t b n low high i f valid may old
-old_step o t b (StoreHeader h which v) f valid may old =
-    old_header o t b h v f which valid may old
-old_step o t b (Freeze h) f valid may old = old_on o t b (Freeze h) f valid may (λ k. refl)
-    (λ k. refl) (λ g i e. (opened_back h g Frozen (phase g t) i frozen_not e).1)
+old_step o t b (Install spot lead low high) f valid old =
+    after_install o t b spot lead low high valid.1 valid.2 valid.0 f old
+old_step o t b (StoreOpened h i) f valid old = old_opened o t b h i f valid.1 valid.0 old
+old_step o t b (NewGroup n low high i) f valid old =
+    old_new o t b n low high i f valid.1 valid.0 old
+old_step o t b (StoreHeader h which v) f valid old =
+    old_header o t b h v f which valid.1 valid.0 old
+old_step o t b (Freeze h) f valid old = old_on o t b (Freeze h) f valid.1 valid.0 (λ k. refl)
+    (λ k. refl) (λ g e. (opened_back h g Frozen (phase g t) f frozen_not e).1)
     (λ g v which z. let bad = z in cc) (λ g low high i z. let bad = z in cc)
     (λ spot lead low high z. let bad = z in cc) old
-old_step o t b (Thaw h) f valid may old = old_on o t b (Thaw h) f valid may (λ k. refl)
-    (λ k. refl) (λ g i e. (opened_back h g Open (phase g t) i open_not e).1)
+old_step o t b (Thaw h) f valid old = old_on o t b (Thaw h) f valid.1 valid.0 (λ k. refl)
+    (λ k. refl) (λ g e. (opened_back h g Open (phase g t) f open_not e).1)
     (λ g v which z. let bad = z in cc) (λ g low high i z. let bad = z in cc)
     (λ spot lead low high z. let bad = z in cc) old
-old_step o t b d f valid may old = old_on o t b d f valid may (λ k. refl) (λ k. refl)
-    (λ g i e. e) (λ g v which z. let bad = z in cc) (λ g low high i z. let bad = z in cc)
+old_step o t b d f valid old = old_on o t b d f valid.1 valid.0 (λ k. refl) (λ k. refl)
+    (λ g e. e) (λ g v which z. let bad = z in cc) (λ g low high i z. let bad = z in cc)
     (λ spot lead low high z. let bad = z in cc) old
 
 pub old_chained : (o : Opening) (t : Execution) → Valid o t → (f : ℕ) →
     AreGone o f t ⊎ OldAreChained o f t
 old_chained o [] valid f = inl (λ g at. open_not at)
 old_chained o (e ∷ t) valid f =
-    old_step o t e.by e.action f valid.1 valid.0 (old_chained o t valid.1 f)
+    old_step o t e.by e.action f valid (old_chained o t valid.1 f)

@@ -1,6 +1,8 @@
 -- A walk from a slot along next words ends in the group that answers for the key, or did.
 use Rattle.std.proofs.Common.{◌≡◌, ℕ, ◌+◌, inl, inr, ⊎_elim, Some}
 use Rattle.std.proofs.Common.{true, false, [], ◌∷◌, ◌++◌, refl, sym, ◌∙◌, subst, arith}
+use Rattle.index_machine.specs.Keepers.{IsGroupKeeper, IsPartKeeper}
+use Rattle.machine_chain.proofs.PartKeys.{key_lies, part_of_key, same_end}
 use Rattle.index_machine.proofs.Executions.{choice-same, own_step, valid_before}
 use Rattle.index_machine.proofs.RepresentingAll.{represented}
 use Rattle.index_machine.specs.Conditions.{Valid}
@@ -10,7 +12,7 @@ use Rattle.index_machine.specs.Permissions.{IsUnopened}
 use Rattle.index_machine.specs.Reaching.{SeesSlot, stands_in, stands_in_after}
 use Rattle.index_machine.specs.RecordConditions.{MayWalk}
 use Rattle.index_machine.specs.Represents.{has_stale_phase}
-use Rattle.index_machine.specs.Sections.{IsCaller, IsKeeper, IsReading, StaysInside}
+use Rattle.index_machine.specs.Sections.{IsCaller, IsReading, StaysInside}
 use Rattle.index_machine.specs.declared.events.Action.TheVariants.{LoadNext, LoadSlotGroup}
 use Rattle.index_machine.specs.declared.opening.Opening.{Opening}
 use Rattle.machine_barriers.proofs.Reaches.{caller_not_keeper}
@@ -51,7 +53,7 @@ pivots_while o c g is (e ∷ n) t valid stay s =
 walker : (o : Opening) (c g : ℕ) (t : Execution) → IsCaller o c → MayWalk o c g t →
     stands_in c g t ≡ true
 walker o c g t is m = ⊎_elim (λ (z : IsReading o c t × (stands_in c g t ≡ true)). z.1)
-    (λ (z : IsKeeper o c). caller_not_keeper o c is z) m
+    (λ (z : IsGroupKeeper o c g). caller_not_keeper o c is (omega arith)) m
 
 pub next_words : NextWordsAreReachable
 next_words o t valid c g found walks e = record {
@@ -97,14 +99,21 @@ least_keys o t valid c g k is s le a = start_at_pivot o t c g k valid is s le a
 -- ---- walks ----
 
 pub walks_begin : WalksBegin
-walks_begin o c side i g k is t valid le =
+walks_begin o c part side i g k is is_part key t valid le =
     let m = valid.0 in
-    let sees : SeesSlot c side i t = ⊎_elim (λ (y : IsReading o c t × SeesSlot c side i t). y.1)
-    (λ (y : IsKeeper o c). caller_not_keeper o c is y) m.allowed in
-    let l = (slots_lead o t valid.1).leads side i (inr (c, is, sees)) in
-    let low = l.1 in (
-      (l.0, omega (arith, low, le), subst (λ (y : ℕ). AnswersFor o l.0 y t) m.says l.2),
-      own_step (stands_in_after g) false c (LoadSlotGroup side i g) t
+    let sees : SeesSlot c part side i t = ⊎_elim (λ (y : IsReading o c t × SeesSlot c part side i t). y.1)
+    (λ (y : IsPartKeeper o c part). caller_not_keeper o c is (omega arith)) m.allowed in
+    let l = (slots_lead o t valid.1).leads part side i is_part (inr (c, is, sees)) in
+    let low = l.1 in
+    let starts = (part_of_key o part k is_part key).0 in
+    let from = l.3.from in (
+      (
+        l.0,
+        omega (arith, low, le),
+        subst (λ (y : ℕ). AnswersFor o l.0 y t) m.says l.2,
+        omega (arith, starts, from),
+      ),
+      own_step (stands_in_after g) false c (LoadSlotGroup part side i g) t
           ∙ choice-same g g true (stands_in c g t) refl,
     )
 
@@ -123,12 +132,15 @@ walks_go_on o c g n k is key newer t valid stay from =
     let here : stands_in c g T ≡ true = stands_in_on c g (event c (LoadNext g (n + 1)) ∷ []) t
     ((λ z. tt), tt) s in
     let pivot : pivot_of o n (newer ++ T) ≡ l.0 + 1 =
-    pivots_while o c n is newer T valid stay stands ∙ l.3 in (
+    pivots_while o c n is newer T valid stay stands ∙ l.3 in
+    let starts = from.3 in
+    let far = l.1 in (
       (λ le. (
         (
           l.0 + 1,
           omega (arith, le, pivot),
           answers_while o c n (l.0 + 1) is newer T valid stay stands l.4,
+          omega (arith, starts, far),
         ),
         stands_in_on c n newer T stay stands,
       )),
@@ -141,8 +153,10 @@ walks_end o c g k is key t valid from =
     let m = valid.0 in
     let s : stands_in c g t ≡ true = walker o c g t is m.allowed in
     let low = from.1 in
+    let lies = key_lies o k key in
+    let same = same_end o k from.0 from.3 (omega (arith, low, lies.1)) in
     (answers_lead o t c g from.0 valid.1 is s (omega (arith, low, key)) from.2).end m.found_word
-    k low key
+    k low (omega (arith, lies.1, same))
 
 -- ---- which group it is ----
 

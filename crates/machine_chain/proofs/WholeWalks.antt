@@ -15,14 +15,15 @@ use Rattle.machine_readers.proofs.ReadSections.{stands_in_on}
 
 pub behind_key : WalksStayBehindTheKey
 behind_key o c k zero g is key now valid w =
-    let side : ℕ = w.0 in
-    let i : ℕ = w.1 in
-    let loaded : Execution = event c (LoadSlotGroup side i g) ∷ w.2 in
-    let v : Valid o (w.3 ++ loaded) = subst (λ (y : Execution). Valid o y) (sym w.4.0) valid in
-    let b = walks_begin o c side i g k is w.2 (valid_before o w.3 loaded v) w.5 in
-    subst (λ (y : Execution). BeginsBefore o k g y × (stands_in c g y ≡ true)) w.4.0 (
-      (b.0.0, b.0.1, answers_while o c g b.0.0 is w.3 loaded v w.4.1 b.1 b.0.2),
-      stands_in_on c g w.3 loaded w.4.1 b.1,
+    let part : ℕ = w.0 in
+    let side : ℕ = w.1 in
+    let i : ℕ = w.2 in
+    let loaded : Execution = event c (LoadSlotGroup part side i g) ∷ w.3 in
+    let v : Valid o (w.4 ++ loaded) = subst (λ (y : Execution). Valid o y) (sym w.5.0) valid in
+    let b = walks_begin o c part side i g k is w.7 w.8 w.3 (valid_before o w.4 loaded v) w.6 in
+    subst (λ (y : Execution). BeginsBefore o k g y × (stands_in c g y ≡ true)) w.5.0 (
+      (b.0.0, b.0.1, answers_while o c g b.0.0 is w.4 loaded v w.5.1 b.1 b.0.2, b.0.3),
+      stands_in_on c g w.4 loaded w.5.1 b.1,
     )
 behind_key o c k (suc n) g is key now valid w =
     let h : ℕ = w.0 in

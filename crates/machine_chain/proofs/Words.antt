@@ -2,7 +2,7 @@
 use Rattle.std.proofs.Common.{◌≡◌, ◌≢◌, ℕ, zero, suc, ◌⊎◌, inl, inr, ⊎_elim, Some, Bool, true}
 use Rattle.std.proofs.Common.{false}
 use Rattle.std.proofs.Common.{◌∷◌, cond, refl, ap, ◌∙◌, ne_eqb}
-use Rattle.std.specs.Prelude.{◌==◌, ◌&&◌}
+use Rattle.std.specs.Prelude.{◌&&◌, ◌==◌, ◌&&◌}
 use mathlib.Core.Logic.{dite}
 use native.Mathlib.Decide.{ℕ_discrete}
 use Rattle.index_machine.specs.Conditions.{Allowed}
@@ -56,7 +56,7 @@ next_kept o t b (Install (NextOf left) lead low high) g = dite (ℕ_discrete lef
     (λ (z : left ≡ g).
     inr (inr (lead, low, high, ap (λ (y : ℕ). Install (NextOf y) lead low high) z)))
     (λ (n : left ≢ g). inl (rw (ne_eqb left g n) refl))
-next_kept o t b (Install (FirstSlot side) lead low high) g = inl refl
+next_kept o t b (Install (FirstSlot part side) lead low high) g = inl refl
 next_kept o t b d g = inl refl
 
 -- a group that may not be refilled keeps its next word, but at the install behind it
@@ -104,7 +104,7 @@ pivot_kept o t b (NewGroup h low high f) g = dite (ℕ_discrete h g)
     (λ (n : h ≢ g). inl (rw (ne_eqb h g n) refl))
 pivot_kept o t b (Install (NextOf left) lead low high) g =
     inl (never (left == g) _ (pivot_of o g t))
-pivot_kept o t b (Install (FirstSlot side) lead low high) g = inl refl
+pivot_kept o t b (Install (FirstSlot part side) lead low high) g = inl refl
 pivot_kept o t b d g = inl refl
 
 -- a group that may not be refilled nor begun keeps its pivot
@@ -140,20 +140,32 @@ chained_next o t b d g k may e = next_same o t b d g may (λ gone s u. gone.unow
 -- ---- pivots of slots ----
 
 -- the action stores the pivot of the slot
-abbrev pub ChangesSlotPivot : ℕ → ℕ → Action → Type 0
-ChangesSlotPivot side i d = (v : ℕ) × (d ≡ StoreUnusedPivot side i v)
+abbrev pub ChangesSlotPivot : ℕ → ℕ → ℕ → Action → Type 0
+ChangesSlotPivot part side i d = (v : ℕ) × (d ≡ StoreUnusedPivot part side i v)
 
-pub slot_pivot_kept : (o : Opening) (t : Execution) (b : ℕ) (d : Action) (side i : ℕ) →
-    (word o (event b d ∷ t) (SlotPivot side i) ≡ word o t (SlotPivot side i))
-    ⊎ ChangesSlotPivot side i d
-slot_pivot_kept o t b (StoreUnusedPivot s j v) side i = dite (ℕ_discrete s side)
+pub slot_pivot_kept : (o : Opening) (t : Execution) (b : ℕ) (d : Action) (part side i : ℕ) →
+    (word o (event b d ∷ t) (SlotPivot part side i) ≡ word o t (SlotPivot part side i))
+    ⊎ ChangesSlotPivot part side i d
+slot_pivot_kept o t b (StoreUnusedPivot q s j v) part side i = dite (ℕ_discrete q part)
+    (λ (x : q ≡ part). dite (ℕ_discrete s side)
     (λ (z : s ≡ side). dite (ℕ_discrete j i)
     (λ (y : j ≡ i).
-    inr (v, ap (λ (x : ℕ). StoreUnusedPivot x j v) z ∙ ap (λ (x : ℕ). StoreUnusedPivot side x v) y))
-    (λ (n : j ≢ i). inl (rw (ne_eqb j i n) (never (s == side) v (word o t (SlotPivot side i))))))
-    (λ (n : s ≢ side). inl (rw (ne_eqb s side n) refl))
-slot_pivot_kept o t b (LinkRow h lane place change zero next) side i = inl refl
-slot_pivot_kept o t b (LinkRow h lane place change (suc n) next) side i = inl refl
-slot_pivot_kept o t b (Install (NextOf left) lead low high) side i = inl refl
-slot_pivot_kept o t b (Install (FirstSlot s) lead low high) side i = inl refl
-slot_pivot_kept o t b d side i = inl refl
+    inr (
+      v,
+      ap (λ (p : ℕ). StoreUnusedPivot p s j v) x
+          ∙ (ap (λ (r : ℕ). StoreUnusedPivot part r j v) z
+          ∙ ap (λ (k : ℕ). StoreUnusedPivot part side k v) y),
+    ))
+    (λ (n : j ≢ i).
+    inl (rw (ne_eqb j i n, and-false (s == side), and-false (q == part)) refl)))
+    (λ (n : s ≢ side). inl (rw (ne_eqb s side n, and-false (q == part)) refl)))
+    (λ (n : q ≢ part). inl (rw (ne_eqb q part n) refl))
+  where
+    and-false : (x : Bool) → (x && false) ≡ false
+    and-false true = refl
+    and-false false = refl
+slot_pivot_kept o t b (LinkRow h lane place change zero next) part side i = inl refl
+slot_pivot_kept o t b (LinkRow h lane place change (suc n) next) part side i = inl refl
+slot_pivot_kept o t b (Install (NextOf left) lead low high) part side i = inl refl
+slot_pivot_kept o t b (Install (FirstSlot q s) lead low high) part side i = inl refl
+slot_pivot_kept o t b d part side i = inl refl

@@ -2,15 +2,18 @@
 --
 -- The fact to remember: where the group changes from one key to the next, the one group's next word
 -- names the other, whose pivot is this key.
+use Rattle.index_machine.specs.Keepers.{first_key, last_key, part_of}
+use Rattle.word_layout.specs.Parts.{part_with}
 use Rattle.std.specs.Prelude.{◌≡◌, ◌≢◌, ◌⊎◌, ℕ, ◌+◌, ◌<◌, ◌≤◌, cond, Option, Some, None}
 use Rattle.word_layout.specs.declared.headers.HeaderWord.TheVariants as header
 use Rattle.word_layout.specs.declared.phase.Phase.{Phase}
 use Rattle.word_layout.specs.declared.phase.Phase.TheVariants.{Opened}
 use Rattle.word_layout.specs.Words.{Header}
+use Rattle.word_layout.specs.Shape.{group_total}
 use Rattle.index_machine.specs.declared.opening.Opening.{Opening}
 use Rattle.index_machine.specs.Execution.{Execution}
-use Rattle.index_machine.specs.Words.{limits, word}
-use Rattle.index_machine.specs.Openings.{greatest_key}
+use Rattle.index_machine.specs.Words.{shape, word}
+use Rattle.word_layout.specs.Parts.{greatest_key}
 use Rattle.index_machine.specs.Groups.{phase, rebuild}
 use Rattle.index_machine.specs.KeyRanges.{group_of, successor, predecessor}
 use Rattle.index_machine.specs.Permissions.{AreGone}
@@ -29,21 +32,31 @@ next_of o group t = word o t (Header group header.Next)
 abbrev pub pivot_of : Opening → ℕ → Execution → ℕ
 pivot_of o group t = word o t (Header group header.Pivot)
 
+-- ---- the part of a key ----
+
+-- the least key of the part that has a key
+abbrev pub start_of : Opening → ℕ → ℕ
+start_of o k = first_key o (part_with (shape o).bounds k)
+
+-- the greatest key of the part that has a key
+abbrev pub end_of : Opening → ℕ → ℕ
+end_of o k = last_key o (part_with (shape o).bounds k)
+
 -- ---- groups of the chain ----
 
--- the groups of the chain lead from key range to key range
+-- the groups of each part's chain lead from key range to key range, from the part's least key to its greatest
 pub record IsChained (o : Opening) (t : Execution) : Type 0 where
-  pub next : (k g h : ℕ) → k < greatest_key → group_of o k t ≡ g → group_of o (k + 1) t ≡ h →
+  pub next : (k g h : ℕ) → k < end_of o k → group_of o k t ≡ g → group_of o (k + 1) t ≡ h →
       g ≢ h → (next_of o g t ≡ h + 1) × (pivot_of o h t ≡ k + 1)
-  pub first : (g : ℕ) → group_of o 0 t ≡ g → pivot_of o g t ≡ 0
-  pub last : (g : ℕ) → group_of o greatest_key t ≡ g → next_of o g t ≡ 0
+  pub first : (k g : ℕ) → k ≡ start_of o k → group_of o k t ≡ g → pivot_of o g t ≡ k
+  pub last : (k g : ℕ) → k ≡ end_of o k → group_of o k t ≡ g → next_of o g t ≡ 0
 
 -- keys have groups of the table; what is no key has none
 pub record KeysHaveGroups (o : Opening) (t : Execution) : Type 0 where
-  pub beyond : (k : ℕ) → greatest_key < k → group_of o k t ≡ (limits o).groups
-  pub within : (k : ℕ) → k ≤ greatest_key → group_of o k t < (limits o).groups
-  pub new : (k g : ℕ) → successor k t ≡ Some g → (k ≤ greatest_key) × (g < (limits o).groups)
-  pub none_behind : next_of o (limits o).groups t ≡ 0
+  pub beyond : (k : ℕ) → greatest_key < k → group_of o k t ≡ group_total (shape o)
+  pub within : (k : ℕ) → k ≤ greatest_key → group_of o k t < group_total (shape o)
+  pub new : (k g : ℕ) → successor k t ≡ Some g → (k ≤ greatest_key) × (g < group_total (shape o))
+  pub none_behind : next_of o (group_total (shape o)) t ≡ 0
   pub old : (k g : ℕ) → predecessor o k t ≡ Some g → k ≤ greatest_key
 
 -- ---- a rebuild under way ----
@@ -54,15 +67,15 @@ IsUnderWay o first t = (k : ℕ) × (phase (group_of o k t) t ≡ Opened first)
 
 -- what stands while a rebuild is under way, from its first opened group to its install
 pub record UnderWayHolds (o : Opening) (first : ℕ) (t : Execution) : Type 0 where
-  -- what is opened is of this rebuild and in the chain, or all of its rebuild is gone
-  pub alone : (group f : ℕ) → phase group t ≡ Opened f →
+  -- what is opened in the part is of this rebuild and in the chain, or all of its rebuild is gone
+  pub alone : (group f : ℕ) → part_of o group ≡ part_of o first → phase group t ≡ Opened f →
       ((f ≡ first) × ((k : ℕ) × (group_of o k t ≡ group))) ⊎ AreGone o f t
   pub planned : (k : ℕ) → phase (group_of o k t) t ≡ Opened first → HasNewGroup first k t
   pub unchained : (k h : ℕ) → rebuild h t ≡ Some first → group_of o k t ≢ h
   pub behind : (k : ℕ) → phase (group_of o k t) t ≡ Opened first → IsBehindFirst o first k t
   pub chained : AreChained o first t
   pub ends : (k h : ℕ) → successor k t ≡ Some h → rebuild h t ≡ Some first →
-      (HasNewGroup first (k + 1) t → ⊥) → IsNextWord o t k (next_of o h t)
+      (HasNewGroup first (k + 1) t → ⊥) → IsNextWord o t (part_of o first) k (next_of o h t)
 
 -- ---- the groups before an install ----
 
@@ -81,16 +94,16 @@ IsOldOf o first k group t = (predecessor o k t ≡ Some group) × (phase group t
 
 -- the old groups of a rebuild lead as they did before the install
 pub record OldAreChained (o : Opening) (first : ℕ) (t : Execution) : Type 0 where
-  pub next : (k g h : ℕ) → k < greatest_key → IsOldOf o first k g t →
+  pub next : (k g h : ℕ) → k < end_of o k → IsOldOf o first k g t →
       group_before o first (k + 1) t ≡ h → g ≢ h →
       (next_of o g t ≡ h + 1) × (pivot_of o h t ≡ k + 1)
-  pub left : (k g : ℕ) → k < greatest_key → IsOldOf o first (k + 1) g t →
+  pub left : (k g : ℕ) → k < end_of o k → IsOldOf o first (k + 1) g t →
       group_before o first k t ≢ g → pivot_of o g t ≡ k + 1
-  pub least : (g : ℕ) → IsOldOf o first 0 g t → pivot_of o g t ≡ 0
-  pub last : (g : ℕ) → IsOldOf o first greatest_key g t → next_of o g t ≡ 0
-  -- the rebuild's first group answers for keys at or before each of theirs
+  pub least : (k g : ℕ) → k ≡ start_of o k → IsOldOf o first k g t → pivot_of o g t ≡ k
+  pub last : (k g : ℕ) → k ≡ end_of o k → IsOldOf o first k g t → next_of o g t ≡ 0
+  -- the rebuild's first group answers for keys of the part at or before each of theirs
   pub lead : (k g : ℕ) → IsOldOf o first k g t →
-      (j : ℕ) × (j ≤ k) × (group_of o j t ≡ first)
+      (j : ℕ) × (j ≤ k) × (group_of o j t ≡ first) × (start_of o k ≤ j)
 
 -- a group that had a key before answers for none
 abbrev pub OldAreUnchained : Opening → Execution → Type 0
@@ -98,7 +111,7 @@ OldAreUnchained o t = (k g j : ℕ) → predecessor o k t ≡ Some g → group_o
 
 -- ---- the laws, over all executions ----
 
--- the groups of the chain lead from key range to key range
+-- the groups of each part's chain lead from key range to key range
 abbrev pub GroupsAreChained : Type 0
 GroupsAreChained = (o : Opening) (t : Execution) → Valid o t → IsChained o t
 
@@ -114,7 +127,7 @@ PivotsOfTheChainAreLeast =
 abbrev pub EachKeyHasAGroup : Type 0
 EachKeyHasAGroup = (o : Opening) (t : Execution) → Valid o t → KeysHaveGroups o t
 
--- a rebuild under way has all its new groups, chained, and no other is under way
+-- a rebuild under way has all its new groups, chained, and no other is under way in its part
 abbrev pub RebuildsUnderWayHold : Type 0
 RebuildsUnderWayHold =
     (o : Opening) (t : Execution) → Valid o t → (first : ℕ) → IsUnderWay o first t →

@@ -1,4 +1,5 @@
 -- The laws of walks, over all executions.
+use Rattle.index_machine.specs.Keepers.{IsPart, IsKeyIn}
 use Rattle.std.specs.Prelude.{◌≡◌, ℕ, ◌+◌, ◌<◌, ◌≤◌, true, Some, ◌++◌, [], ◌∷◌}
 use Rattle.word_layout.specs.declared.headers.HeaderWord.TheVariants as header
 use Rattle.word_layout.specs.Words.{Header, SlotGroup, SlotPivot}
@@ -8,7 +9,7 @@ use Rattle.index_machine.specs.declared.events.Action.TheVariants.{LoadSlotGroup
 use Rattle.index_machine.specs.declared.opening.Opening.{Opening}
 use Rattle.index_machine.specs.Execution.{Execution, event}
 use Rattle.index_machine.specs.Words.{word}
-use Rattle.index_machine.specs.Openings.{greatest_key}
+use Rattle.word_layout.specs.Parts.{greatest_key}
 use Rattle.index_machine.specs.Sections.{IsCaller, IsNoCrossing, StaysInside}
 use Rattle.index_machine.specs.Groups.{phase, rebuild, slot}
 use Rattle.index_machine.specs.KeyRanges.{group_of, successor}
@@ -29,30 +30,30 @@ use Rattle.machine_chain.specs.Walks.{IsStandingPlace, LeadsOn, StartsAtPivot, S
 -- ---- slots ----
 
 -- the slots that can be loaded, of the side in use and of one on which a caller stands, lead to
--- groups of keys at or before their pivots, which rise from the least key
+-- groups of keys of their part at or before their pivots, which rise from the part's least key
 abbrev pub SlotsLeadToGroups : Type 0
 SlotsLeadToGroups = (o : Opening) (t : Execution) → Valid o t → SlotsLead o t
 
 -- the group of a slot that can be loaded has its pivot at or before the slot's
 abbrev pub SlotsAreAtOrBehindTheirGroups : Type 0
 SlotsAreAtOrBehindTheirGroups =
-    (o : Opening) (t : Execution) → Valid o t → (side i : ℕ) → IsReadableSlot o side i t →
-    word o t (SlotPivot side i) ≤ greatest_key →
-    pivot_of o (slot o side i t) t ≤ word o t (SlotPivot side i)
+    (o : Opening) (t : Execution) → Valid o t → (part side i : ℕ) → IsPart o part →
+    IsReadableSlot o part side i t →
+    pivot_of o (slot o part side i t) t ≤ word o t (SlotPivot part side i)
 
 -- a hand that may read a slot may load its group, whatever it finds
 abbrev pub SlotGroupsAreTrue : Type 0
 SlotGroupsAreTrue =
-    (o : Opening) (t : Execution) → Valid o t → (hand side i found : ℕ) →
-    MayReadSlot o hand side i t → word o t (SlotGroup side i) ≡ found →
-    MayLoadSlotGroup o hand side i found t
+    (o : Opening) (t : Execution) → Valid o t → (hand part side i found : ℕ) →
+    MayReadSlot o hand part side i t → word o t (SlotGroup part side i) ≡ found →
+    MayLoadSlotGroup o hand part side i found t
 
--- the action is no load of the root
+-- the action is no load of a root word
 abbrev pub IsNoRootLoad : Action → Type 0
-IsNoRootLoad (LoadRoot word) = ⊥
+IsNoRootLoad (LoadRoot part word) = ⊥
 IsNoRootLoad _ = Unit {0}
 
--- the hand's read section goes on over these newer events, and it loads no root
+-- the hand's read section goes on over these newer events, and it loads no root word
 abbrev pub KeepsRoot : ℕ → Execution → Type 0
 KeepsRoot hand [] = Unit {0}
 KeepsRoot hand (e ∷ newer) =
@@ -61,10 +62,10 @@ KeepsRoot hand (e ∷ newer) =
 -- meanwhile it sees the same slots, which keep their pivots
 abbrev pub SlotsSeenStay : Type 0
 SlotsSeenStay =
-    (o : Opening) (caller side i : ℕ) → IsCaller o caller → (newer t : Execution) →
-    Valid o (newer ++ t) → KeepsRoot caller newer → SeesSlot caller side i t →
-    SeesSlot caller side i (newer ++ t)
-    × (word o (newer ++ t) (SlotPivot side i) ≡ word o t (SlotPivot side i))
+    (o : Opening) (caller part side i : ℕ) → IsCaller o caller → (newer t : Execution) →
+    Valid o (newer ++ t) → KeepsRoot caller newer → SeesSlot caller part side i t →
+    SeesSlot caller part side i (newer ++ t)
+    × (word o (newer ++ t) (SlotPivot part side i) ≡ word o t (SlotPivot part side i))
 
 -- ---- where callers stand ----
 
@@ -142,14 +143,15 @@ AnswersWhileUnopened =
 
 -- ---- walks ----
 
--- a walk begins at the group of a slot whose pivot is at most the key
+-- a walk begins at the group of a slot of the key's part whose pivot is at most the key
 abbrev pub WalksBegin : Type 0
 WalksBegin =
-    (o : Opening) (caller side i group k : ℕ) → IsCaller o caller → (t : Execution) →
-    Valid o (event caller (LoadSlotGroup side i group) ∷ t) →
-    word o t (SlotPivot side i) ≤ k →
-    BeginsBefore o k group (event caller (LoadSlotGroup side i group) ∷ t)
-    × (stands_in caller group (event caller (LoadSlotGroup side i group) ∷ t) ≡ true)
+    (o : Opening) (caller part side i group k : ℕ) → IsCaller o caller → IsPart o part →
+    IsKeyIn o part k → (t : Execution) →
+    Valid o (event caller (LoadSlotGroup part side i group) ∷ t) →
+    word o t (SlotPivot part side i) ≤ k →
+    BeginsBefore o k group (event caller (LoadSlotGroup part side i group) ∷ t)
+    × (stands_in caller group (event caller (LoadSlotGroup part side i group) ∷ t) ≡ true)
 
 -- it goes on to the next group where the pivot of this is at most the key, and else has come to a
 -- group that answers for the key, or did

@@ -1,9 +1,10 @@
 -- A whole walk of a caller, from a slot to the group of its key, as one fact of an execution.
+use Rattle.index_machine.specs.Keepers.{IsPart, IsKeyIn}
 use Rattle.std.specs.Prelude.{◌≡◌, ◌⊎◌, ℕ, zero, suc, ◌+◌, ◌<◌, ◌≤◌, true, ◌++◌, ◌∷◌}
 use Rattle.index_machine.specs.declared.events.Action.TheVariants.{LoadNext, LoadSlotGroup}
 use Rattle.index_machine.specs.declared.opening.Opening.{Opening}
 use Rattle.index_machine.specs.Execution.{Execution, event}
-use Rattle.index_machine.specs.Openings.{greatest_key}
+use Rattle.word_layout.specs.Parts.{greatest_key}
 use Rattle.index_machine.specs.Reaching.{stands_in}
 use Rattle.index_machine.specs.Sections.{IsCaller, StaysInside}
 use Rattle.index_machine.specs.Conditions.{Valid}
@@ -18,9 +19,9 @@ GoesOnFrom caller loaded newer now = (newer ++ loaded ≡ now) × StaysInside ca
 -- at most the key, and from each group to the next one, whose pivot is at most the key
 abbrev pub HasWalkedTo : Opening → ℕ → ℕ → ℕ → ℕ → Execution → Type 0
 HasWalkedTo o caller k zero group now =
-    (side : ℕ) × (i : ℕ) × (t : Execution) × (newer : Execution)
-    × GoesOnFrom caller (event caller (LoadSlotGroup side i group) ∷ t) newer now
-    × (slot_pivot o side i t ≤ k)
+    (part : ℕ) × (side : ℕ) × (i : ℕ) × (t : Execution) × (newer : Execution)
+    × GoesOnFrom caller (event caller (LoadSlotGroup part side i group) ∷ t) newer now
+    × (slot_pivot o part side i t ≤ k) × IsPart o part × IsKeyIn o part k
 HasWalkedTo o caller k (suc steps) group now =
     (before : ℕ) × (t : Execution) × (newer : Execution) × HasWalkedTo o caller k steps before t
     × GoesOnFrom caller (event caller (LoadNext before (group + 1)) ∷ t) newer now

@@ -20,25 +20,25 @@ use Rattle.machine_places.proofs.FromOpening.{agreement, live_places}
 use Rattle.machine_readers.proofs.FromOpening.{reached_keys}
 
 pub first_closes : FirstBarrierCloses
-first_closes o g n t valid still shut quiescent =
-    first_barrier o g n t valid (inserts_over o g n t valid still shut).0 quiescent
+first_closes o keeper g n t valid of still shut quiescent =
+    first_barrier o g n t valid (inserts_over o keeper g n t valid of still shut) quiescent
 
 pub second_frees : SecondBarrierFrees
-second_frees o f n t valid still shut quiescent g at =
-    let over = old_groups_over o f n t valid still shut in
+second_frees o keeper f n t valid of still shut quiescent g at =
+    let over = old_groups_over o keeper f n t valid of still shut in
     gone o (n ++ t) g f at over.1
     (λ c is r. second_barrier o f n t valid over.0 quiescent c is r)
 
 pub third_frees : ThirdBarrierFrees
-third_frees o p n t valid still shut quiescent c is r =
-    third_barrier o p n t valid (old_place_over o p n t valid still shut).0 quiescent c is r
+third_frees o keeper p n t valid of still shut quiescent c is r =
+    third_barrier o p n t valid (old_place_over o keeper p n t valid of still shut) quiescent c is r
 
 pub side_frees : BarrierFreesSide
-side_frees o side n t valid still shut quiescent =
-    let over = side_over o side n t valid still shut in
+side_frees o keeper part side n t valid of still shut quiescent =
+    let over = side_over o keeper part side n t valid of still shut in
     record {
       not_present = over.1;
-      empty = λ c i is s. side_barrier o side n t valid over.0 quiescent c is (i, s);
+      empty = λ c i is s. side_barrier o part side n t valid over.0 quiescent c is (i, s);
     }
 
 pub locks_stay : LocksStay
@@ -51,7 +51,8 @@ opening-no_redirect : (o : Opening) → (a q y : ℕ) → form o a [] ≢ Redire
 opening-no_redirect o a q y e = opening_form-redirect o a q y e
 
 pub all_pending : RedirectsArePending
-all_pending o t valid a q y e = redirects_are_pending o (opening-no_redirect o) t valid a q y e
+all_pending o t valid keeper a q y at e =
+    redirects_are_pending o (opening-no_redirect o) t valid keeper a at q y e
 
 pub merged_places : LivePlacesAreMerged
 merged_places o t valid k g h p own successors each none e =

@@ -1,12 +1,23 @@
 -- How the keeper meets its conditions.
 use Rattle.std.proofs.Common.{◌≡◌, ◌≢◌, ℕ, ◌⊎◌, inl, inr, ⊎_elim, Option, Some, None, Bool, true}
-use Rattle.std.proofs.Common.{false, [], ◌∷◌, cond, refl, sym, ap, ◌∙◌}
-use Rattle.std.specs.Prelude.{◌==◌}
+use Rattle.std.proofs.Common.{false, [], ◌∷◌, cond, refl, sym, ap, ◌∙◌, subst}
+use Rattle.std.proofs.Common.{arith, ◌+◌, ◌*◌, ◌/◌}
+use Rattle.std.specs.Prelude.{◌==◌, ◌-◌}
+use Rattle.std.proofs.lemmas.Nat.{div-mul-add}
 use mathlib.Core.Logic.{dite}
 use native.Mathlib.Decide.{ℕ_discrete}
 use Rattle.index_machine.proofs.Executions.{choice-other, choice-same}
 use Rattle.index_machine.specs.Conditions.{Allowed, Valid}
 use Rattle.index_machine.specs.Execution.{Execution, event, own}
+use Rattle.index_machine.proofs.OpeningRows.{array_not_row}
+use Rattle.index_machine.specs.Keepers.{IsArrayPlaceOf, IsGroupKeeper, IsKeeper, IsKeeperAt, part_of}
+use Rattle.index_machine.specs.Words.{limits, shape}
+use Rattle.word_layout.proofs.WordNames.{array_inside}
+use Rattle.word_layout.specs.Addresses.{array_address, first_group_word}
+use Rattle.word_layout.specs.Headers.{header_words}
+use Rattle.word_layout.specs.Limits.{group_words_of}
+use Rattle.word_layout.specs.Places.{IsRow}
+use Rattle.word_layout.specs.Shape.{Shape}
 use Rattle.index_machine.specs.Forms.{Redirect, Unlocked, copied_away}
 use Rattle.index_machine.specs.Forms.{is_removed, made_direct}
 use Rattle.index_machine.specs.Groups.{IsInUse, phase, root}
@@ -39,36 +50,74 @@ use Rattle.word_layout.specs.declared.phase.Phase.TheVariants.{Opened}
 direct_not : (n : ℕ) (r : Bool) (q v p y : ℕ) → made_direct n r (Redirect q v) ≡ Redirect p y → ⊥
 direct_not n r q v p y e = let bad : Unlocked n r v ≡ Redirect p y = e in cc
 
-pending_step : (o : Opening) (t : Execution) (b : ℕ) (d : Action) → Allowed o t b d →
-    ((a q y : ℕ) → form o a t ≡ Redirect q y → pending_redirect a t ≡ Some q) → (a q y : ℕ) →
-    form o a (event b d ∷ t) ≡ Redirect q y → pending_redirect a (event b d ∷ t) ≡ Some q
-pending_step o t b (StoreDirect p from k r raised) may old a q y e = dite (ℕ_discrete p a)
+-- an array place is of one group
+one_array : (o : Opening) (g h a : ℕ) → IsArrayPlaceOf o g a → IsArrayPlaceOf o h a → g ≡ h
+one_array o g h a mine theirs =
+    let s : Shape = shape o in
+    let width : ℕ = group_words_of s.limits in
+    let first : ℕ = first_group_word s in
+    let x = array_inside s g a 0 mine.group_exists mine.in_array (omega arith) in
+    let y = array_inside s h a 0 theirs.group_exists theirs.in_array (omega arith) in
+    let r : ℕ = header_words + (a - array_address s g 0 + 0) in
+    let u : ℕ = header_words + (a - array_address s h 0 + 0) in
+    let same : g * width + r ≡ h * width + u = omega (arith, x.2, y.2) in
+    sym (div-mul-add g width r x.0) ∙ ap (λ (n : ℕ). n / width) same ∙ div-mul-add h width u y.0
+
+either : (w : Bool) (x y : Option ℕ) → x ≡ y → cond w x y ≡ y
+either true x y e = e
+either false x y e = refl
+
+-- who writes a redirect where a keeper may look is that keeper
+writer : (o : Opening) (t : Execution) (b g p k to a keeper : ℕ) →
+    Allowed o t b (StoreRedirect g p k to) → p ≡ a → IsKeeperAt o keeper a → b ≡ keeper
+writer o t b g p k to a keeper may z at = ⊎_elim
+    (λ (w : IsKeeper o keeper × IsRow (shape o) a).
+    absurd (array_not_row (shape o) g p may.in_array.group_exists may.in_array.in_array
+    (subst (IsRow (shape o)) (sym z) w.1)))
+    (λ (w : (group : ℕ) × IsArrayPlaceOf o group a × IsGroupKeeper o keeper group).
+    let same = one_array o g w.0 a (subst (IsArrayPlaceOf o g) z may.in_array) w.1 in
+    may.keeper ∙ ap (λ (i : ℕ). (limits o).callers + part_of o i) same ∙ sym w.2)
+    at
+
+pending_step : (o : Opening) (t : Execution) (b : ℕ) (d : Action) (keeper a : ℕ) →
+    Allowed o t b d → IsKeeperAt o keeper a →
+    ((q y : ℕ) → form o a t ≡ Redirect q y → pending_redirect keeper a t ≡ Some q) → (q y : ℕ) →
+    form o a (event b d ∷ t) ≡ Redirect q y → pending_redirect keeper a (event b d ∷ t) ≡ Some q
+pending_step o t b (StoreDirect p from k r raised) keeper a may at old q y e = dite (ℕ_discrete p a)
     (λ (z : p ≡ a). absurd (direct_not (first_version o) r from may.value q y
     (ap (made_direct (first_version o) r) (sym may.forwards ∙ ap (λ (i : ℕ). form o i t) z)
     ∙ (sym (choice-same p a (made_direct (first_version o) r (form o a t))
     (cond (from == a) (copied_away (form o a t)) (form o a t)) z) ∙ e))))
-    (λ (n : p ≢ a). choice-other p a None (pending_redirect a t) n
-    ∙ ⊎_elim (λ (z : (i : ℕ) × (form o a t ≡ Redirect q i)). old a q z.0 z.1)
+    (λ (n : p ≢ a).
+    either (b == keeper) (cond (p == a) None (pending_redirect keeper a t)) (pending_redirect keeper a t)
+    (choice-other p a None (pending_redirect keeper a t) n)
+    ∙ ⊎_elim (λ (z : (i : ℕ) × (form o a t ≡ Redirect q i)). old q z.0 z.1)
     (λ (z : (g : ℕ) × (j : ℕ) × (StoreDirect p from k r raised ≡ StoreRedirect g a j q)). let bad =
     z.2 in cc) (redirect_back o t b (StoreDirect p from k r raised) a q y e))
-pending_step o t b (StoreRedirect g p k to) may old a q y e = dite (ℕ_discrete p a)
+pending_step o t b (StoreRedirect g p k to) keeper a may at old q y e = dite (ℕ_discrete p a)
     (λ (z : p ≡ a). let two : Redirect to 0 ≡ Redirect q y =
     sym (choice-same p a (Redirect to 0) (form o a t) z) ∙ e in let same : to ≡ q = cc in
-    choice-same p a (Some to) (pending_redirect a t) z ∙ ap Some same)
-    (λ (n : p ≢ a). choice-other p a (Some to) (pending_redirect a t) n
-    ∙ old a q y (sym (choice-other p a (Redirect to 0) (form o a t) n) ∙ e))
-pending_step o t b d may old a q y e = ⊎_elim
-    (λ (z : (i : ℕ) × (form o a t ≡ Redirect q i)). old a q z.0 z.1)
+    choice-same b keeper (cond (p == a) (Some to) (pending_redirect keeper a t))
+    (pending_redirect keeper a t) (writer o t b g p k to a keeper may z at)
+    ∙ choice-same p a (Some to) (pending_redirect keeper a t) z
+    ∙ ap Some same)
+    (λ (n : p ≢ a).
+    either (b == keeper) (cond (p == a) (Some to) (pending_redirect keeper a t))
+    (pending_redirect keeper a t) (choice-other p a (Some to) (pending_redirect keeper a t) n)
+    ∙ old q y (sym (choice-other p a (Redirect to 0) (form o a t) n) ∙ e))
+pending_step o t b d keeper a may at old q y e = ⊎_elim
+    (λ (z : (i : ℕ) × (form o a t ≡ Redirect q i)). old q z.0 z.1)
     (λ (z : (g : ℕ) × (j : ℕ) × (d ≡ StoreRedirect g a j q)). let bad = z.2 in cc)
     (redirect_back o t b d a q y e)
 
--- a redirect is one that the keeper wrote and did not yet make direct
+-- a redirect where a keeper may look is one that it wrote and did not yet make direct
 pub redirects_are_pending : (o : Opening) → ((a q y : ℕ) → form o a [] ≢ Redirect q y) →
-    (t : Execution) → Valid o t → (a q y : ℕ) → form o a t ≡ Redirect q y →
-    pending_redirect a t ≡ Some q
-redirects_are_pending o start [] valid a q y e = absurd (start a q y e)
-redirects_are_pending o start (e ∷ t) valid a q y at =
-    pending_step o t e.by e.action valid.0 (redirects_are_pending o start t valid.1) a q y at
+    (t : Execution) → Valid o t → (keeper a : ℕ) → IsKeeperAt o keeper a → (q y : ℕ) →
+    form o a t ≡ Redirect q y → pending_redirect keeper a t ≡ Some q
+redirects_are_pending o start [] valid keeper a at q y e = absurd (start a q y e)
+redirects_are_pending o start (e ∷ t) valid keeper a at q y is =
+    pending_step o t e.by e.action keeper a valid.0 at
+    (redirects_are_pending o start t valid.1 keeper a at) q y is
 
 -- where nobody may insert no row comes to the buffer, and what is removed in the group stays so
 pub rows_final : (o : Opening) (t : Execution) (b : ℕ) (d : Action) (g k q : ℕ) → Allowed o t b d →
@@ -134,11 +183,11 @@ pub gone : (o : Opening) (t : Execution) (g f : ℕ) → phase g t ≡ Opened f 
     IsGone o g t
 gone o t g f at shut none = record {
   unowned = λ k e. shut.unowned k (ap (λ (y : ℕ). phase y t) e ∙ at);
-  unnamed = λ side i r e.
+  unnamed = λ part side i r e.
       ⊎_elim
-      (λ (z : IsInUse (root o t) side i).
-      shut.unnamed side i z (ap (λ (y : ℕ). phase y t) e ∙ at))
-      (λ (z : (c : ℕ) × IsCaller o c × SeesSlot c side i t).
-      none z.0 z.1 (g, at, inr (side, i, z.2, e))) r;
+      (λ (z : IsInUse (root o part t) side i).
+      shut.unnamed part side i z (ap (λ (y : ℕ). phase y t) e ∙ at))
+      (λ (z : (c : ℕ) × IsCaller o c × SeesSlot c part side i t).
+      none z.0 z.1 (g, at, inr (part, side, i, z.2, e))) r;
   empty = λ c is s. none c is (g, at, inl s);
 }

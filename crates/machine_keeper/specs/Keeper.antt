@@ -1,5 +1,5 @@
--- What the keeper may conclude: when its barriers are over, what stays as it left it, and that rows
--- are given back unreached.
+-- What the keeper of a part may conclude: when its barriers are over, what stays as it left it, and that
+-- rows are given back unreached.
 use Rattle.std.specs.Prelude.{◌≡◌, ◌≢◌, ◌⊎◌, ℕ, Bool, true, Some, ◌∷◌, ◌++◌}
 use Rattle.index_machine.specs.declared.events.Action.{Action}
 use Rattle.index_machine.specs.declared.events.Action.TheVariants.{Install}
@@ -7,6 +7,7 @@ use Rattle.index_machine.specs.declared.events.InstallWord.{InstallWord}
 use Rattle.index_machine.specs.declared.opening.Opening.{Opening}
 use Rattle.index_machine.specs.Execution.{Execution, event}
 use Rattle.index_machine.specs.Sections.{IsCaller, IsQuiescent}
+use Rattle.index_machine.specs.Keepers.{IsPartKeeper, IsGroupKeeper, IsKeeperAt}
 use Rattle.index_machine.specs.Rows.{InArray, InBuffer, role_key, Holds, role}
 use Rattle.index_machine.specs.Forms.{Locked, Redirect, is_removed}
 use Rattle.index_machine.specs.Places.{form, IsInGroup}
@@ -15,6 +16,7 @@ use Rattle.index_machine.specs.Openings.{within}
 use Rattle.index_machine.specs.Reaching.{reached}
 use Rattle.index_machine.specs.Permissions.{IsClosedToInserts, AreGone}
 use Rattle.index_machine.specs.LivePlaces.{live_place}
+use Rattle.index_machine.specs.RecordConditions.{KeepsPlace}
 use Rattle.index_machine.specs.RebuildConditions.{IsUnusedSide}
 use Rattle.index_machine.specs.Conditions.{Allowed, Valid}
 use Rattle.machine_barriers.specs.Barriers.{IsShutForInserts, IsShutForOldGroups, IsShutForOldPlace}
@@ -26,30 +28,33 @@ use Rattle.machine_keeper.specs.Marks.{KeeperKeepsStructure, pending_redirect}
 -- after the first barrier nobody may insert into the frozen group
 abbrev pub FirstBarrierCloses : Type 0
 FirstBarrierCloses =
-    (o : Opening) (group : ℕ) (newer t : Execution) → Valid o (newer ++ t) →
-    KeeperKeepsStructure o newer → IsShutForInserts group o t → IsQuiescent o t (newer ++ t) →
+    (o : Opening) (keeper group : ℕ) (newer t : Execution) → Valid o (newer ++ t) →
+    IsGroupKeeper o keeper group → KeeperKeepsStructure keeper newer →
+    IsShutForInserts group o t → IsQuiescent o t (newer ++ t) →
     IsClosedToInserts o group (newer ++ t)
 
 -- after the second the old groups of the rebuild are gone, all at once
 abbrev pub SecondBarrierFrees : Type 0
 SecondBarrierFrees =
-    (o : Opening) (first : ℕ) (newer t : Execution) → Valid o (newer ++ t) →
-    KeeperKeepsStructure o newer → IsShutForOldGroups first o t →
-    IsQuiescent o t (newer ++ t) → AreGone o first (newer ++ t)
+    (o : Opening) (keeper first : ℕ) (newer t : Execution) → Valid o (newer ++ t) →
+    IsGroupKeeper o keeper first → KeeperKeepsStructure keeper newer →
+    IsShutForOldGroups first o t → IsQuiescent o t (newer ++ t) → AreGone o first (newer ++ t)
 
 -- after the third nobody relies on an old place
 abbrev pub ThirdBarrierFrees : Type 0
 ThirdBarrierFrees =
-    (o : Opening) (place : ℕ) (newer t : Execution) → Valid o (newer ++ t) →
-    KeeperKeepsStructure o newer → IsShutForOldPlace place o t → IsQuiescent o t (newer ++ t) →
+    (o : Opening) (keeper place : ℕ) (newer t : Execution) → Valid o (newer ++ t) →
+    KeepsPlace o t keeper place → KeeperKeepsStructure keeper newer →
+    IsShutForOldPlace place o t → IsQuiescent o t (newer ++ t) →
     (caller : ℕ) → IsCaller o caller → reached caller place (newer ++ t) ≡ true → ⊥
 
--- after a barrier the side of the root that is not in use may be written
+-- after a barrier the side of the part's root that is not in use may be written
 abbrev pub BarrierFreesSide : Type 0
 BarrierFreesSide =
-    (o : Opening) (side : ℕ) (newer t : Execution) → Valid o (newer ++ t) →
-    KeeperKeepsStructure o newer → IsShutForSide side o t → IsQuiescent o t (newer ++ t) →
-    IsUnusedSide o side (newer ++ t)
+    (o : Opening) (keeper part side : ℕ) (newer t : Execution) → Valid o (newer ++ t) →
+    IsPartKeeper o keeper part → KeeperKeepsStructure keeper newer →
+    IsShutForSide part side o t → IsQuiescent o t (newer ++ t) →
+    IsUnusedSide o part side (newer ++ t)
 
 -- ---- what stays ----
 
@@ -70,11 +75,11 @@ ClosedBuffersGainNoRow =
     role o row (event by action ∷ t) ≡ InBuffer group k →
     role o row t ≡ InBuffer group k
 
--- each redirect is one that the keeper wrote and did not make direct yet
+-- each redirect in a place of its part is one that the keeper wrote and did not make direct yet
 abbrev pub RedirectsArePending : Type 0
 RedirectsArePending =
-    (o : Opening) (t : Execution) → Valid o t → (a to value : ℕ) →
-    form o a t ≡ Redirect to value → pending_redirect a t ≡ Some to
+    (o : Opening) (t : Execution) → Valid o t → (keeper a to value : ℕ) → IsKeeperAt o keeper a →
+    form o a t ≡ Redirect to value → pending_redirect keeper a t ≡ Some to
 
 -- ---- the install ----
 

@@ -27,7 +27,7 @@ pub fn third_barrier_frees()
     ensures { ThirdBarrierFrees }
 {}
 
-/// The side of the root that was not in use before a mark is empty at the end of the barrier.
+/// The side of a part's root that was not in use before a mark is empty at the end of the barrier.
 pub fn barrier_frees_side()
     ensures { BarrierFreesSide }
 {}
@@ -42,7 +42,7 @@ pub fn closed_buffers_gain_no_row()
     ensures { ClosedBuffersGainNoRow }
 {}
 
-/// The keeper knows every redirect that there is.
+/// A keeper knows every redirect that there is in its part.
 pub fn redirects_are_pending()
     ensures { RedirectsArePending }
 {}

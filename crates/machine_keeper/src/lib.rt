@@ -1,7 +1,7 @@
-//! What the keeper may conclude.
+//! What the keeper of a part may conclude.
 //!
-//! Between a mark and its check the keeper changes no structure, so what a barrier ends does not
-//! begin again.
+//! Between a mark and its check the keeper changes no structure, and the other keepers change their own
+//! parts. So what a barrier ends does not begin again.
 #![tactic(auto)]
 
 mod laws;

@@ -1,23 +1,23 @@
 -- The laws, from what stands at the opening.
-use Rattle.std.proofs.Common.{◌≡◌, ◌≤◌, ℕ, Option, Some, None, Bool, false, [], ◌∷◌, refl, sym, ap}
-use Rattle.std.proofs.Common.{◌∙◌, subst, inl, le-ltb, arith}
+use Rattle.std.proofs.Common.{◌≡◌, ℕ, Option, Some, None, Bool, false, [], ◌∷◌, refl, sym, ap}
+use Rattle.std.proofs.Common.{◌∙◌, subst, inl}
 use Rattle.std.specs.Prelude.{IsSome}
 use Rattle.index_machine.specs.Conditions.{Allowed, Valid}
 use Rattle.index_machine.specs.Execution.{Execution, event}
 use Rattle.index_machine.specs.Forms.{live_value, unless}
 use Rattle.index_machine.specs.LivePlaces.{history, live_place, value_in_map}
-use Rattle.index_machine.specs.Openings.{first_version, form_of_row, greatest_key, opening_group}
+use Rattle.index_machine.specs.Openings.{first_version, form_of_row}
 use Rattle.index_machine.specs.Openings.{opening_live_place, opening_map}
 use Rattle.index_machine.specs.Places.{form}
 use Rattle.index_machine.specs.RecordConditions.{IsChangeTo}
-use Rattle.index_machine.specs.Rows.{InArray, role, role_key, role_of_row}
+use Rattle.index_machine.specs.Rows.{role, role_key, role_of_row}
 use Rattle.index_machine.specs.Sections.{IsCaller}
-use Rattle.index_machine.specs.Words.{limits}
+use Rattle.index_machine.specs.Words.{shape}
 use Rattle.index_machine.specs.declared.events.Action.{Action}
 use Rattle.index_machine.specs.declared.events.Action.TheVariants.{LinkRow, Unlock}
 use Rattle.index_machine.specs.declared.opening.Opening.{Opening}
-use Rattle.index_machine.proofs.OpeningRows.{key_without_place, opening_role-keyed}
-use Rattle.index_machine.proofs.OpeningRows.{opening_row-key, opening_row-live, row_of_place}
+use Rattle.index_machine.proofs.OpeningRows.{opening_live-none, opening_live-row, opening_role-keyed}
+use Rattle.index_machine.proofs.OpeningRows.{opening_row-live}
 use Rattle.machine_places.proofs.Agreement.{map_agrees}
 use Rattle.index_machine.proofs.Options.{none_some, not_so, some_is}
 use Rattle.machine_places.proofs.LivePlaces.{live_places_stand}
@@ -39,26 +39,17 @@ pub opening-map_agrees : (o : Opening) → MapAgrees o []
 opening-map_agrees o k = go (opening_live_place o k) refl
   where
     go : (p : Option ℕ) → opening_live_place o k ≡ p → HasLiveValue o [] k p
-    go None e = key_without_place (limits o) 0 o.rows k e
+    go None e = opening_live-none o k e
     go (Some p) e =
-        let row = row_of_place (limits o) 0 o.rows k p e in (
+        let row = opening_live-row o k p e in (
           row.0,
           ap (λ (r : Option (ℕ × ℕ)). live_value (form_of_row (first_version o) r)) row.1,
           row.2,
-          ap (λ (r : Option (ℕ × ℕ)). role_key (role_of_row r)) row.1,
+          ap (λ (r : Option (ℕ × ℕ)). role_key (role_of_row (shape o) r)) row.1,
         )
 
--- group 0 answers for all keys
-opening-group : (o : Opening) (k : ℕ) → k ≤ greatest_key → opening_group o k ≡ 0
-opening-group o k key =
-    rw (le-ltb k 0 (omega arith), le-ltb greatest_key k key) refl
-
 pub opening-live_places_stand : (o : Opening) → LivePlacesStand o []
-opening-live_places_stand o k p e =
-    let row = row_of_place (limits o) 0 o.rows k p e in
-    let key = opening_row-key o p k row.0 row.1 in
-    inl (ap role_of_row row.1
-    ∙ ap (λ (g : ℕ). InArray g k) (sym (opening-group o k (omega arith))))
+opening-live_places_stand o k p e = inl (ap (role_of_row (shape o)) (opening_live-row o k p e).1)
 
 pub one_live_place : AtMostOneLivePlace
 one_live_place o t valid = only_live o (opening-only_live o) t valid

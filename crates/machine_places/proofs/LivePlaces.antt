@@ -31,6 +31,7 @@ use Rattle.index_machine.specs.declared.events.Action.TheVariants.{Unlock}
 use Rattle.index_machine.specs.declared.events.InstallWord.{InstallWord}
 use Rattle.index_machine.specs.declared.opening.Opening.{Opening}
 use Rattle.machine_places.proofs.Agreement.{emptied_keeps, map_agrees}
+use Rattle.index_machine.proofs.OfParts.{opened_elsewhere, successor_of_part, stays_opened, stays_successor}
 use Rattle.index_machine.proofs.Options.{none_some, some_is}
 use Rattle.machine_places.proofs.LiveValues.{only_live}
 use Rattle.machine_places.specs.Agreement.{HasLiveValue, LivePlacesStand, MapAgrees, OnlyLive}
@@ -302,9 +303,9 @@ module _ (o : Opening) (t : Execution) (b : ℕ) (a : MapAgrees o t) (old : Live
       here z false f e = subst (λ (y : ℕ). IsPlaceOf o T k y) (some_is e)
           (inl (may.here ∙ (ap (λ (y : ℕ). InArray (group_of o y t) y) z)))
 
-  begun : (g low high f : ℕ) → MayBegin o t b g low high f →
+  begun : (g low high f : ℕ) → Valid o t → MayBegin o t b g low high f →
       LivePlacesStand o (event b (NewGroup g low high f) ∷ t)
-  begun g low high f may k p e = carry o t b (NewGroup g low high f) k p a refl
+  begun g low high f valid may k p e = carry o t b (NewGroup g low high f) k p a refl
       (λ q s keyed. emptied_keeps g (role o q t)
       (λ j z. ⊎_elim (λ (h : live_place o k t ≡ Some q). may.not_live k q j h z)
       (λ (h : role o q t ≡ InArray (group_of o k t) k).
@@ -313,26 +314,32 @@ module _ (o : Opening) (t : Execution) (b : ℕ) (a : MapAgrees o t) (old : Live
       (λ q p y s f _. (y, f))
       (λ h s. ⊎_elim (λ (z : group_of o k t ≡ h). inl z)
       (λ (z : (e : ℕ) × (phase (group_of o k t) t ≡ Opened e) × (successor k t ≡ Some h)).
-      absurd (may.idle k z.0 z.1)) s)
+      let apart = opened_elsewhere o t b g low high f valid may k z.0 z.1 in
+      let same = successor_of_part o t k h valid z.2 in
+      inr (
+        z.0,
+        stays_opened o t b g low high f (group_of o k t) z.0 valid apart z.1,
+        stays_successor o t b g low high f k h valid may (λ w. apart (sym same ∙ w)) z.2,
+      )) s)
       e (old k p e)
 
-  live_places_stand_step : (one : OnlyLive o t) (d : Action) → Allowed o t b d →
+  live_places_stand_step : Valid o t → (one : OnlyLive o t) (d : Action) → Allowed o t b d →
       LivePlacesStand o (event b d ∷ t)
-  live_places_stand_step one (Install spot lead low high) may = installed spot lead low high may
-  live_places_stand_step one (LinkRow g lane p d prior next) may =
+  live_places_stand_step valid one (Install spot lead low high) may = installed spot lead low high may
+  live_places_stand_step valid one (LinkRow g lane p d prior next) may =
       linked g lane p d prior next may
-  live_places_stand_step one (Unlock p r d raised) may = unlock one p r d raised may.1
-  live_places_stand_step one (StoreDirect c p j r raised) may = directed c p j r raised may
-  live_places_stand_step one (NewGroup g low high f) may = begun g low high f may
-  live_places_stand_step one (PopFree p next) may =
+  live_places_stand_step valid one (Unlock p r d raised) may = unlock one p r d raised may.1
+  live_places_stand_step valid one (StoreDirect c p j r raised) may = directed c p j r raised may
+  live_places_stand_step valid one (NewGroup g low high f) may = begun g low high f valid may
+  live_places_stand_step valid one (PopFree p next) may =
       placed (PopFree p next) (λ k. refl) (λ k. refl) (λ k. refl) (λ k. refl)
       (λ k q p y s f _. (y, f)) (λ k q _ keyed.
       role_set o t p q k (HeldBy b) Unused may.2.unused refl keyed)
-  live_places_stand_step one (PushFree p head) may =
+  live_places_stand_step valid one (PushFree p head) may =
       placed (PushFree p head) (λ k. refl) (λ k. refl) (λ k. refl) (λ k. refl)
       (λ k q p y s f _. (y, f)) (λ k q _ keyed.
       role_set o t p q k Unused (HeldBy b) may.held refl keyed)
-  live_places_stand_step one (Retire p next) may =
+  live_places_stand_step valid one (Retire p next) may =
       placed (Retire p next) (λ k. refl) (λ k. refl) (λ k. refl) (λ k. refl)
       (λ k q p y s f _. (y, f))
       (λ k q s keyed. choice-other p q (HeldBy b) (role o q t)
@@ -340,7 +347,7 @@ module _ (o : Opening) (t : Execution) (b : ℕ) (a : MapAgrees o t) (old : Live
       (λ (h : role o q t ≡ InArray (group_of o k t) k). let w = may.where_it_is in
       let two : InBuffer w.0 w.1 ≡ InArray (group_of o k t) k = sym w.2
       ∙ (ap (λ (y : ℕ). role o y t) z ∙ h) in cc) s))
-  live_places_stand_step one (StoreRedirect g c j p) may =
+  live_places_stand_step valid one (StoreRedirect g c j p) may =
       placed (StoreRedirect g c j p) (λ k. refl) (λ k. refl) (λ k. refl) (λ k. refl)
       (λ k q s y h f _. (
         y,
@@ -349,23 +356,23 @@ module _ (o : Opening) (t : Execution) (b : ℕ) (a : MapAgrees o t) (old : Live
             ∙ (ap (λ (i : ℕ). role o i t) z ∙ h) in cc) ∙ f,
       ))
       (λ k q _ keyed. role_set o t c q k (InArray g j) Unused may.unused refl keyed)
-  live_places_stand_step one (Lock p expected) may =
+  live_places_stand_step valid one (Lock p expected) may =
       forms (Lock p expected) (λ k. refl) (λ k. refl) (λ k. refl) (λ k. refl) (λ k. refl)
       (λ q s y k h f. redirect_if (p == q) s y (with_lock b (form o q t)) (form o q t) f
       (y, ap (with_lock b) f))
-  live_places_stand_step one (Close p expected) may =
+  live_places_stand_step valid one (Close p expected) may =
       forms (Close p expected) (λ k. refl) (λ k. refl) (λ k. refl) (λ k. refl) (λ k. refl)
       (λ q s y k h f. redirect_if (p == q) s y (with_lock b (form o q t)) (form o q t) f
       (y, ap (with_lock b) f))
-  live_places_stand_step one (StoreValue p x) may =
+  live_places_stand_step valid one (StoreValue p x) may =
       forms (StoreValue p x) (λ k. refl) (λ k. refl) (λ k. refl) (λ k. refl) (λ k. refl)
       (λ q s y k h f. redirect_if (p == q) s y (with_value x (form o q t)) (form o q t) f
       (x, ap (with_value x) f))
-  live_places_stand_step one (Copy p x) may =
+  live_places_stand_step valid one (Copy p x) may =
       forms (Copy p x) (λ k. refl) (λ k. refl) (λ k. refl) (λ k. refl) (λ k. refl)
       (λ q s y k h f. redirect_if (p == q) s y (with_value x (form o q t)) (form o q t) f
       (x, ap (with_value x) f))
-  live_places_stand_step one (StoreMoved p) may =
+  live_places_stand_step valid one (StoreMoved p) may =
       forms (StoreMoved p) (λ k. refl) (λ k. refl) (λ k. refl) (λ k. refl) (λ k. refl)
       (λ q s y k h f. (
         y,
@@ -373,23 +380,23 @@ module _ (o : Opening) (t : Execution) (b : ℕ) (a : MapAgrees o t) (old : Live
             (λ z. let two : Copied may.version may.removed may.value ≡ Redirect s y = sym may.copied
             ∙ (ap (λ (i : ℕ). form o i t) z ∙ f) in cc) ∙ f,
       ))
-  live_places_stand_step one (Freeze g) may =
+  live_places_stand_step valid one (Freeze g) may =
       phased (Freeze g) (λ k. refl) (λ k. refl) (λ k. refl) (λ k. refl) (λ k. refl)
       (λ h f e. opened_if g h Frozen (phase h t) Open f
       (λ z w. not_opened (sym may.was ∙ (ap (λ (i : ℕ). phase i t) z ∙ w))) e)
-  live_places_stand_step one (Thaw g) may = phased (Thaw g) (λ k. refl) (λ k. refl) (λ k. refl)
+  live_places_stand_step valid one (Thaw g) may = phased (Thaw g) (λ k. refl) (λ k. refl) (λ k. refl)
       (λ k. refl) (λ k. refl)
       (λ h f e. opened_if g h Open (phase h t) Open f
       (λ z w. not_opened2 (sym may.was ∙ (ap (λ (i : ℕ). phase i t) z ∙ w))) e)
-  live_places_stand_step one (StoreOpened g i) may =
+  live_places_stand_step valid one (StoreOpened g i) may =
       phased (StoreOpened g i) (λ k. refl) (λ k. refl) (λ k. refl) (λ k. refl) (λ k. refl)
       (λ h f e. opened_if g h (Opened i) (phase h t) Open f
       (λ z w. not_opened2 (sym may.frozen ∙ (ap (λ (i : ℕ). phase i t) z ∙ w))) e)
-  live_places_stand_step one d may = old
+  live_places_stand_step valid one d may = old
 
 pub live_places_stand : (o : Opening) → OnlyLive o [] → MapAgrees o [] → LivePlacesStand o [] →
     (t : Execution) → Valid o t → LivePlacesStand o t
 live_places_stand o one start first [] valid = first
 live_places_stand o one start first (e ∷ t) valid =
     live_places_stand_step o t e.by (map_agrees o one start t valid.1)
-    (live_places_stand o one start first t valid.1) (only_live o one t valid.1) e.action valid.0
+    (live_places_stand o one start first t valid.1) valid.1 (only_live o one t valid.1) e.action valid.0

@@ -1,6 +1,7 @@
 -- The record rows in buffers and the retired ones against the inserting changes.
-use Rattle.std.proofs.Common.{◌≡◌, ◌≢◌, ℕ, ◌+◌, ◌≤◌, inl, inr, Option, Some, None, Bool, true}
-use Rattle.std.proofs.Common.{false, List, [], ◌∷◌, cond, refl, sym, ap, ◌∙◌, subst, arith, ne_eqb}
+use Rattle.std.proofs.lemmas.Bool.{lt-leb}
+use Rattle.std.proofs.Common.{◌<◌, ◌≡◌, ◌≢◌, ℕ, ◌+◌, ◌≤◌, inl, inr, Option, Some, None, Bool, true}
+use Rattle.std.proofs.Common.{false, List, [], ◌∷◌, cond, refl, sym, ap, ◌∙◌, subst, arith}
 use Rattle.std.specs.Prelude.{◌==◌, is_none}
 use Rattle.std.specs.List.{count_by}
 use Rattle.std.proofs.lemmas.List.Sums.{sum_by-cons}
@@ -17,7 +18,7 @@ use Rattle.index_machine.specs.Openings.{opening_map}
 use Rattle.index_machine.specs.RecordConditions.{IsChangeTo, MayLink}
 use Rattle.index_machine.specs.Rows.{HeldBy, InArray, InBuffer, Role, Unused, emptied, role}
 use Rattle.index_machine.specs.Rows.{role_of_row}
-use Rattle.index_machine.specs.Words.{limits}
+use Rattle.index_machine.specs.Words.{shape, limits}
 use Rattle.index_machine.specs.declared.events.Action.{Action}
 use Rattle.index_machine.specs.declared.events.Action.TheVariants.{LinkRow, NewGroup, PopFree}
 use Rattle.index_machine.specs.declared.events.Action.TheVariants.{PushFree, Retire}
@@ -135,9 +136,9 @@ linked_before : (o : Opening) (t : Execution) (b : ℕ) (d : Action) → Allowed
     IsLinkedOrRetired o p (event b d ∷ t) → IsLinkedOrRetired o p t
 linked_before o t b (PopFree q next) may p not_it e =
     let caller = may.0.caller in
-    let differ : b ≢ (limits o).callers = λ z. omega (arith, caller, z) in
+    let below : b < (limits o).callers = caller in
     set_back (limits o).callers q p (HeldBy b) (role o p t)
-    (λ z s. not_so (sym (ne_eqb b (limits o).callers differ) ∙ s)) e
+    (λ z s. not_so (sym (lt-leb (limits o).callers b below) ∙ s)) e
 linked_before o t b (PushFree q head) may p not_it e =
     set_back (limits o).callers q p Unused (role o p t) (λ z s. not_so s) e
 linked_before o t b (LinkRow g lane q c prior next) may p not_it e =
@@ -173,7 +174,7 @@ linked_step o t b g lane q c prior next may =
     count_once (λ p. is_linked_or_retired (limits o).callers (role o p t))
     (λ p. is_linked_or_retired (limits o).callers
     (role o p (event b (LinkRow g lane q c prior next) ∷ t)))
-    q (all_rows o) (rows-distinct (limits o) 0 (limits o).records)
+    q (all_rows o) (rows-distinct (shape o) 0 (limits o).records)
     (λ p n. linked_before o t b (LinkRow g lane q c prior next) may p
     (λ h side r e prior' next' z w. n (w ∙ sym (linked_row z))))
   where
@@ -222,7 +223,7 @@ opening-covered o =
     omega (arith, none, no_more)
   where
     unlinked : (keeper : ℕ) (r : Option (ℕ × ℕ)) →
-        is_linked_or_retired keeper (role_of_row r) ≡ true → ⊥
+        is_linked_or_retired keeper (role_of_row (shape o) r) ≡ true → ⊥
     unlinked keeper None e = not_so e
     unlinked keeper (Some r) e = not_so e
 

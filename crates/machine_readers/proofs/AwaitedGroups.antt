@@ -4,6 +4,8 @@ use Rattle.std.proofs.Common.{◌≡◌, ◌≢◌, ℕ, ◌⊎◌, inl, inr, �
 use Rattle.std.proofs.Common.{false, [], ◌∷◌, cond, refl, sym, ap, ◌∙◌, subst}
 use mathlib.Core.Logic.{dite}
 use native.Mathlib.Decide.{ℕ_discrete}
+use Rattle.index_machine.specs.Keepers.{part_of}
+use Rattle.index_machine.proofs.OfParts.{opened_elsewhere, successor_of_part, stays_successor, stays_rebuilt}
 use Rattle.index_machine.proofs.Executions.{choice-other, choice-same}
 use Rattle.index_machine.specs.Conditions.{Allowed, Valid}
 use Rattle.index_machine.specs.Execution.{Execution, event}
@@ -143,11 +145,19 @@ await_opened o t b g i may old k f e = dite (ℕ_discrete g (group_of o k t))
     ))
 
 await_new : (o : Opening) (t : Execution) (b g low high i : ℕ) →
-    Allowed o t b (NewGroup g low high i) → NewGroupsAwait o t →
+    Valid o t → Allowed o t b (NewGroup g low high i) → NewGroupsAwait o t →
     NewGroupsAwait o (event b (NewGroup g low high i) ∷ t)
-await_new o t b g low high i may old k f e =
+await_new o t b g low high i valid may old k f e =
     let at = begun_back g (group_of o k t) (phase (group_of o k t) t) f e in
-    absurd (may.idle k f at.2)
+    let m = old k f at.2 in
+    let elsewhere = opened_elsewhere o t b g low high i valid may k f at.2 in
+    let same = successor_of_part o t k m.0 valid m.1 in
+    let apart : part_of o m.0 ≢ part_of o g = λ w. elsewhere (sym same ∙ w) in (
+      m.0,
+      stays_successor o t b g low high i k m.0 valid may apart m.1,
+      stays_rebuilt o t b g low high i m.0 f valid apart m.2,
+      λ j u. m.3 j (begun_back g m.0 (phase m.0 t) j u).2,
+    )
 
 await_install : (o : Opening) (t : Execution) (b : ℕ) (spot : InstallWord)
     (lead low high : ℕ) → Allowed o t b (Install spot lead low high) → NewGroupsAwait o t →
@@ -168,27 +178,27 @@ await_install o t b spot lead low high may old k f e = go (within low k high) re
         ∙ ap (λ (i : Option ℕ). or_else i (group_of o k t)) m.3 in
         absurd (open_not (sym m.5 ∙ (ap (λ (i : ℕ). phase i t) (sym same) ∙ e)))
 
-await_step : (o : Opening) (t : Execution) (b : ℕ) (d : Action) → Allowed o t b d →
+await_step : (o : Opening) (t : Execution) (b : ℕ) (d : Action) → Valid o t → Allowed o t b d →
     NewGroupsAwait o t → NewGroupsAwait o (event b d ∷ t)
-await_step o t b (Freeze g) may old k f e =
+await_step o t b (Freeze g) valid may old k f e =
     let m = old k f
     (opened_back g (group_of o k t) Frozen (phase (group_of o k t) t) f frozen_not e).1 in
     (m.0, m.1, m.2, λ j u. m.3 j (opened_back g m.0 Frozen (phase m.0 t) j frozen_not u).1)
-await_step o t b (Thaw g) may old k f e =
+await_step o t b (Thaw g) valid may old k f e =
     let m = old k f
     (opened_back g (group_of o k t) Open (phase (group_of o k t) t) f open_not e).1 in
     (m.0, m.1, m.2, λ j u. m.3 j (opened_back g m.0 Open (phase m.0 t) j open_not u).1)
-await_step o t b (StoreOpened g i) may old k f e = await_opened o t b g i may old k f e
-await_step o t b (NewGroup g low high i) may old k f e =
-    await_new o t b g low high i may old k f e
-await_step o t b (Install spot lead low high) may old k f e =
+await_step o t b (StoreOpened g i) valid may old k f e = await_opened o t b g i may old k f e
+await_step o t b (NewGroup g low high i) valid may old k f e =
+    await_new o t b g low high i valid may old k f e
+await_step o t b (Install spot lead low high) valid may old k f e =
     await_install o t b spot lead low high may old k f e
-await_step o t b d may old k f e = old k f e
+await_step o t b d valid may old k f e = old k f e
 
 pub new_groups_await : (o : Opening) (t : Execution) → Valid o t → NewGroupsAwait o t
 new_groups_await o [] valid = λ k f e. open_not e
 new_groups_await o (e ∷ t) valid =
-    await_step o t e.by e.action valid.0 (new_groups_await o t valid.1)
+    await_step o t e.by e.action valid.1 valid.0 (new_groups_await o t valid.1)
 
 -- ---- places that are awaited ----
 

@@ -37,7 +37,7 @@ stands_in_step : (c g b : ℕ) (d : Action) (t : Execution) → (b ≡ c → IsN
     stands_in c g t ≡ true → stands_in c g (event b d ∷ t) ≡ true
 stands_in_step c g b (Enter n) t within e = still_in b c (stands_in c g t) within e
 stands_in_step c g b (Leave n) t within e = still_in b c (stands_in c g t) within e
-stands_in_step c g b (LoadSlotGroup side i found) t within e =
+stands_in_step c g b (LoadSlotGroup part side i found) t within e =
     more (b == c) (found == g) (stands_in c g t) e
 stands_in_step c g b (LoadNext h found) t within e =
     more (b == c) (found == g + 1) (stands_in c g t) e

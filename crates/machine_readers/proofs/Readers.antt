@@ -2,6 +2,8 @@
 -- reviving.
 use Rattle.std.proofs.Common.{◌≡◌, ◌≢◌, ℕ, ◌⊎◌, inl, inr, ⊎_elim, Option, Some, None, Bool, true}
 use Rattle.std.proofs.Common.{false, [], ◌∷◌, ◌++◌, cond, refl, sym, ap, ◌∙◌, subst}
+use Rattle.index_machine.specs.Keepers.{part_of}
+use Rattle.index_machine.proofs.OfParts.{opened_elsewhere, successor_of_part, stays_opened, stays_successor}
 use Rattle.index_machine.specs.Conditions.{Allowed, Valid}
 use Rattle.index_machine.specs.Execution.{Execution, event, own}
 use Rattle.index_machine.specs.Forms.{Redirect, is_removed, live_value}
@@ -202,7 +204,16 @@ module _ (o : Opening) (starts : Starts o) where
       begun : (j low high i : ℕ) → Allowed o t b (NewGroup j low high i) →
           (group_of o k t ≡ g) × (phase g t ≡ Opened f) × (successor k t ≡ Some h) →
           IsBehind o (event b (NewGroup j low high i) ∷ t) g f h k
-      begun j low high i may z = absurd (may.idle k f (ap (λ (y : ℕ). phase y t) z.0 ∙ z.1))
+      begun j low high i may z =
+          let at : phase (group_of o k t) t ≡ Opened f = ap (λ (y : ℕ). phase y t) z.0 ∙ z.1 in
+          let elsewhere = opened_elsewhere o t b j low high i valid may k f at in
+          let same = successor_of_part o t k h valid z.2 in
+          inl (
+            z.0,
+            stays_opened o t b j low high i g f valid
+                (λ w. elsewhere (ap (part_of o) z.0 ∙ w)) z.1,
+            stays_successor o t b j low high i k h valid may (λ w. elsewhere (sym same ∙ w)) z.2,
+          )
 
       first : (d : Action) → Allowed o t b d →
           (group_of o k t ≡ g) × (phase g t ≡ Opened f) × (successor k t ≡ Some h) →

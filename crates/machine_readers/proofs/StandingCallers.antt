@@ -2,6 +2,7 @@
 -- one, or the one before, and stays one of these.
 use Rattle.std.proofs.Common.{◌≡◌, ◌≢◌, ℕ, ◌⊎◌, inl, inr, ⊎_elim, Option, Some, None, Bool, true}
 use Rattle.std.proofs.Common.{false, [], ◌∷◌, ◌++◌, cond, refl, sym, ap, ◌∙◌, subst}
+use Rattle.index_machine.proofs.OfParts.{opened_elsewhere, successor_of_part, stays_opened, stays_successor}
 use Rattle.index_machine.proofs.Executions.{choice-other}
 use Rattle.index_machine.specs.Conditions.{Allowed, Valid}
 use Rattle.index_machine.specs.Execution.{Execution, event}
@@ -152,7 +153,13 @@ of_key_new o t b n low high i c g k valid may is s of = ⊎_elim
     (λ (x : IsBufferFor o k g t). ⊎_elim
     (λ (y : group_of o k t ≡ g). inl (inl y))
     (λ (y : (f : ℕ) × (phase (group_of o k t) t ≡ Opened f) × (successor k t ≡ Some g)).
-    absurd (may.idle k y.0 y.1)) x)
+    let elsewhere = opened_elsewhere o t b n low high i valid may k y.0 y.1 in
+    let same = successor_of_part o t k g valid y.2 in
+    inl (inr (
+      y.0,
+      stays_opened o t b n low high i (group_of o k t) y.0 valid elsewhere y.1,
+      stays_successor o t b n low high i k g valid may (λ w. elsewhere (sym same ∙ w)) y.2,
+    ))) x)
     (λ (x : predecessor o k t ≡ Some g).
     let p = groups_before_are_opened o t valid k g x in
     let other : g ≢ n =

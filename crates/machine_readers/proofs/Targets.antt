@@ -3,6 +3,7 @@
 use Rattle.std.proofs.Common.{◌≡◌, ◌≢◌, ℕ, ◌⊎◌, inl, inr, ⊎_elim, Option, Some, Bool, true, false}
 use Rattle.std.proofs.Common.{[], ◌∷◌, cond, refl, sym, ap, ◌∙◌, subst}
 use Rattle.std.specs.Prelude.{◌==◌}
+use Rattle.index_machine.proofs.OfParts.{opened_elsewhere, successor_of_part, stays_successor}
 use Rattle.index_machine.proofs.Executions.{choice-same}
 use Rattle.index_machine.specs.Conditions.{Allowed, Valid}
 use Rattle.index_machine.specs.Execution.{Execution, event}
@@ -64,11 +65,11 @@ RedirectsAwait o t =
 
 -- of a redirect that was there before
 redirect_awaits : (o : Opening) (t : Execution) (b : ℕ) (d : Action) (a h k p z : ℕ) →
-    Allowed o t b d → RedirectsLeadToOld o t → RedirectsAwait o t → role o a t ≡ InArray h k →
-    form o a t ≡ Redirect p z →
+    Valid o t → Allowed o t b d → RedirectsLeadToOld o t → RedirectsAwait o t →
+    role o a t ≡ InArray h k → form o a t ≡ Redirect p z →
     IsInGroup o (event b d ∷ t) (group_of o k (event b d ∷ t)) k p →
     successor k (event b d ∷ t) ≡ Some h
-redirect_awaits o t b d a h k p z may leads old s e there = go d may here
+redirect_awaits o t b d a h k p z valid may leads old s e there = go d may here
   where
     -- the group of the place is opened, and is the key's after the action
     place : (g : ℕ) × (f : ℕ) × (phase g t ≡ Opened f) × IsInGroup o t g k p
@@ -98,14 +99,19 @@ redirect_awaits o t b d a h k p z may leads old s e there = go d may here
     go (Install spot lead low high) may here =
         installed spot lead low high may here (within low k high) refl
     go (NewGroup n low high f) may here =
-        absurd (may.idle k place.1 (ap (λ (i : ℕ). phase i t) (sym here) ∙ place.2))
+        let at : phase (group_of o k t) t ≡ Opened place.1 =
+        ap (λ (i : ℕ). phase i t) (sym here) ∙ place.2
+        in
+        let same = successor_of_part o t k h valid (was here) in
+        stays_successor o t b n low high f k h valid may
+        (λ w. opened_elsewhere o t b n low high f valid may k place.1 at (sym same ∙ w)) (was here)
     go d may here = was here
 
-await_step : (o : Opening) (t : Execution) (b : ℕ) (d : Action) → Allowed o t b d →
+await_step : (o : Opening) (t : Execution) (b : ℕ) (d : Action) → Valid o t → Allowed o t b d →
     RedirectsLeadToOld o t → RedirectsAwait o t → RedirectsAwait o (event b d ∷ t)
-await_step o t b d may leads old a h k p y s e there = ⊎_elim
+await_step o t b d valid may leads old a h k p y s e there = ⊎_elim
     (λ (z : (role o a t ≡ InArray h k) × ((z : ℕ) × (form o a t ≡ Redirect p z))).
-    redirect_awaits o t b d a h k p z.1.0 may leads old z.0 z.1.1 there)
+    redirect_awaits o t b d a h k p z.1.0 valid may leads old z.0 z.1.1 there)
     (λ (z : d ≡ StoreRedirect h a k p).
     subst (λ (i : Action). successor k (event b i ∷ t) ≡ Some h) (sym z)
     (may_as o t b d (StoreRedirect h a k p) z may).belongs)
@@ -115,7 +121,7 @@ redirects_await : (o : Opening) → RedirectsLeadToOld o [] → (t : Execution) 
     RedirectsAwait o t
 redirects_await o start [] valid = λ a h k p y s e there. opening_form-redirect o a p y e
 redirects_await o start (e ∷ t) valid =
-    await_step o t e.by e.action valid.0 (redirects_lead_to_old o start t valid.1)
+    await_step o t e.by e.action valid.1 valid.0 (redirects_lead_to_old o start t valid.1)
     (redirects_await o start t valid.1)
 
 -- ---- one redirect to a place ----

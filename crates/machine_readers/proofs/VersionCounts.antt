@@ -178,7 +178,7 @@ counted_step o t b (Close q expected) p k may s h =
     let old : IsVersion o n u.0 = subst (IsCounted o n) here h in
     subst (IsCounted o n)
     (sym (choice-same q p (with_lock b (form o p t)) (form o p t) z ∙ ap (with_lock b) here))
-    (old, λ is. caller_not_keeper o b is may.keeper))
+    (old, λ is. let keeper = may.keeper.3 in caller_not_keeper o b is (omega arith)))
     (λ (differ : q ≢ p). subst (IsCounted o n)
     (sym (choice-other q p (with_lock b (form o p t)) (form o p t) differ)) h)
 counted_step o t b (StoreValue q y) p k may s h =

@@ -1,132 +1,156 @@
--- The words that the header of group 0 gets for the keys of the opening.
-use Rattle.std.proofs.Common.{◌≡◌, ◌≢◌, inl, inr, ⊎_elim, ℕ, zero, suc, ◌+◌, ◌*◌, ◌<◌, ◌≤◌, List, length, slice_index}
-use Rattle.std.proofs.Common.{slice_set, refl, sym, ap, ◌∙◌, subst, arith, length-set}
+-- The words that the header of a group gets for its keys.
+use Rattle.std.proofs.Common.{◌≡◌, ◌≢◌, ℕ, zero, suc, ◌+◌, ◌*◌, ◌<◌, ◌≤◌, List, length, slice_index}
+use Rattle.std.proofs.Common.{slice_set, refl, sym, ◌∙◌, subst, arith, length-set}
 use mathlib.Core.Logic.{dite}
 use native.Mathlib.Decide.{ℕ_discrete}
 use Rattle.line_window.specs.Line.{error_of}
 use Rattle.rebuild_plan.specs.Plan.{lane_count, lane_width}
 use Rattle.rebuild_plan.specs.Keys.{cut_of}
-use Rattle.rebuild_plan.proofs.LaneLaws.{lane_count-most}
 use Rattle.word_layout.specs.declared.headers.HeaderWord.TheVariants as header
-use Rattle.word_layout.specs.declared.limits.Limits.{Limits}
 use Rattle.word_layout.specs.Headers.{most_lanes}
 use Rattle.word_layout.specs.Limits.{word_count}
+use Rattle.word_layout.specs.Shape.{Shape, group_total}
 use Rattle.word_layout.specs.Words.{Word, Header, IsWord, address_of, word_named}
 use Rattle.word_layout.proofs.WordNames.{stores_by_name}
-use Rattle.opened_table.specs.Laying.{IsOfHeader, LaysCuts, LaysHeader}
+use Rattle.opened_table.specs.Laying.{LaysCuts, LaysHeader}
 
-cut_lane : {i j : ℕ} → Header 0 (header.Cut i) ≡ Header 0 (header.Cut j) → i ≡ j
+cut_lane : {g i j : ℕ} → Header g (header.Cut i) ≡ Header g (header.Cut j) → i ≡ j
 cut_lane e = cc
 
 -- ---- the cuts ----
 
 -- the cut of a later lane is the key of its first record
-pub cut_at : (keys : List ℕ) (lane : ℕ) → 1 ≤ lane →
-    cut_of 0 keys lane ≡ slice_index keys (lane * lane_width (length keys))
-cut_at keys zero some = absurd (omega arith)
-cut_at keys (suc before) some = refl
+pub cut_at : (pivot : ℕ) (keys : List ℕ) (lane : ℕ) → 1 ≤ lane →
+    cut_of pivot keys lane ≡ slice_index keys (lane * lane_width (length keys))
+cut_at pivot keys zero some = absurd (omega arith)
+cut_at pivot keys (suc before) some = refl
 
 -- before any
-pub no_cuts : (l : Limits) (keys words : List ℕ) → LaysCuts l keys 1 words words
-no_cuts l keys words =
+pub no_cuts : (s : Shape) (group pivot : ℕ) (keys words : List ℕ) →
+    LaysCuts s group pivot keys 0 words words
+no_cuts s group pivot keys words =
     record {
       wide = refl;
-      cuts = λ lane some lt. absurd (omega arith);
+      cuts = λ lane lt. absurd (omega arith);
       kept = λ w is none. refl;
     }
 
 -- and one more
-pub cut_more : (l : Limits) (keys : List ℕ) (many : ℕ) (old words : List ℕ) → 0 < l.groups →
-    length old ≡ word_count l → 1 ≤ many → many < most_lanes → LaysCuts l keys many old words →
-    LaysCuts l keys (many + 1) old
-    (slice_set words (address_of l (Header 0 (header.Cut many))) (cut_of 0 keys many))
-cut_more l keys many old words groups wide some below done =
-    let w : Word = Header 0 (header.Cut many) in
-    let is_word : IsWord l w = (groups, below) in
-    let wide_words : length words ≡ word_count l = done.wide ∙ wide in
+pub cut_more : (s : Shape) (group pivot : ℕ) (keys : List ℕ) (many : ℕ) (old words : List ℕ) →
+    group < group_total s → length old ≡ word_count s → many < most_lanes →
+    LaysCuts s group pivot keys many old words →
+    LaysCuts s group pivot keys (many + 1) old
+    (slice_set words (address_of s (Header group (header.Cut many))) (cut_of pivot keys many))
+cut_more s group pivot keys many old words exists wide below done =
+    let w : Word = Header group (header.Cut many) in
+    let is_word : IsWord s w = (exists, below) in
+    let wide_words : length words ≡ word_count s = done.wide ∙ wide in
     record {
-      wide = length-set words (address_of l w) (cut_of 0 keys many) ∙ done.wide;
-      cuts = λ lane first lt. dite (ℕ_discrete lane many)
+      wide = length-set words (address_of s w) (cut_of pivot keys many) ∙ done.wide;
+      cuts = λ lane lt. dite (ℕ_discrete lane many)
           (λ (same : lane ≡ many).
           subst
           (λ (i : ℕ).
-          word_named l (slice_set words (address_of l w) (cut_of 0 keys many))
-          (Header 0 (header.Cut i)) ≡ cut_of 0 keys i)
+          word_named s (slice_set words (address_of s w) (cut_of pivot keys many))
+          (Header group (header.Cut i)) ≡ cut_of pivot keys i)
           (sym same)
-          ((stores_by_name l).stored words w (cut_of 0 keys many) wide_words is_word))
+          ((stores_by_name s).stored words w (cut_of pivot keys many) wide_words is_word))
           (λ (differ : lane ≢ many).
-          (stores_by_name l).kept words w (Header 0 (header.Cut lane)) (cut_of 0 keys many) is_word
-          (groups, omega arith) (λ e. differ (sym (cut_lane e)))
-          ∙ done.cuts lane first (omega arith));
+          (stores_by_name s).kept words w (Header group (header.Cut lane)) (cut_of pivot keys many)
+          is_word (exists, omega arith) (λ e. differ (sym (cut_lane e)))
+          ∙ done.cuts lane (omega arith));
       kept = λ v is none.
-          (stores_by_name l).kept words w v (cut_of 0 keys many) is_word is
-          (λ e. none many some (omega arith) (sym e))
-          ∙ done.kept v is (λ lane first lt. none lane first (omega arith));
+          (stores_by_name s).kept words w v (cut_of pivot keys many) is_word is
+          (λ e. none many (omega arith) (sym e))
+          ∙ done.kept v is (λ lane lt. none lane (omega arith));
     }
 
 -- ---- the header ----
 
--- the table where the size, the line error and the number of lanes were stored
-abbrev pub sized : (l : Limits) (keys words : List ℕ) → List ℕ
-sized l keys words =
+-- the table where the pivot, the size, the line error and the number of lanes were stored
+abbrev pub told : (s : Shape) (group pivot : ℕ) (keys words : List ℕ) → List ℕ
+told s group pivot keys words =
     slice_set
-    (slice_set (slice_set words (address_of l (Header 0 header.Size)) (length keys))
-    (address_of l (Header 0 header.LineError)) (error_of keys))
-    (address_of l (Header 0 header.Lanes)) (lane_count (length keys))
+    (slice_set
+    (slice_set (slice_set words (address_of s (Header group header.Pivot)) pivot)
+    (address_of s (Header group header.Size)) (length keys))
+    (address_of s (Header group header.LineError)) (error_of keys))
+    (address_of s (Header group header.Lanes)) (lane_count (length keys))
 
-module _ (l : Limits) (keys old new : List ℕ) (groups : 0 < l.groups)
-    (wide : length old ≡ word_count l)
-    (cuts : LaysCuts l keys (lane_count (length keys)) (sized l keys old) new) where
+module _ (s : Shape) (group pivot : ℕ) (keys old new : List ℕ) (exists : group < group_total s)
+    (wide : length old ≡ word_count s)
+    (cuts : LaysCuts s group pivot keys (lane_count (length keys)) (told s group pivot keys old) new) where
+  abbrev with_pivot : List ℕ
+  with_pivot = slice_set old (address_of s (Header group header.Pivot)) pivot
+
   abbrev with_size : List ℕ
-  with_size = slice_set old (address_of l (Header 0 header.Size)) (length keys)
+  with_size = slice_set with_pivot (address_of s (Header group header.Size)) (length keys)
 
   abbrev with_error : List ℕ
-  with_error = slice_set with_size (address_of l (Header 0 header.LineError)) (error_of keys)
+  with_error = slice_set with_size (address_of s (Header group header.LineError)) (error_of keys)
 
-  wide_size : length with_size ≡ word_count l
-  wide_size = length-set old (address_of l (Header 0 header.Size)) (length keys) ∙ wide
+  wide_pivot : length with_pivot ≡ word_count s
+  wide_pivot = length-set old (address_of s (Header group header.Pivot)) pivot ∙ wide
 
-  wide_error : length with_error ≡ word_count l
+  wide_size : length with_size ≡ word_count s
+  wide_size = length-set with_pivot (address_of s (Header group header.Size)) (length keys) ∙ wide_pivot
+
+  wide_error : length with_error ≡ word_count s
   wide_error =
-      length-set with_size (address_of l (Header 0 header.LineError)) (error_of keys) ∙ wide_size
+      length-set with_size (address_of s (Header group header.LineError)) (error_of keys) ∙ wide_size
 
-  is_size : IsWord l (Header 0 header.Size)
-  is_size = (groups, tt)
+  is_pivot : IsWord s (Header group header.Pivot)
+  is_pivot = (exists, tt)
 
-  is_error : IsWord l (Header 0 header.LineError)
-  is_error = (groups, tt)
+  is_size : IsWord s (Header group header.Size)
+  is_size = (exists, tt)
 
-  is_lanes : IsWord l (Header 0 header.Lanes)
-  is_lanes = (groups, tt)
+  is_error : IsWord s (Header group header.LineError)
+  is_error = (exists, tt)
 
-  pub header_laid : LaysHeader l keys old new
+  is_lanes : IsWord s (Header group header.Lanes)
+  is_lanes = (exists, tt)
+
+  -- what the store of the number of lanes and the cuts keep
+  kept_last : (w : Word) → IsWord s w →
+      ((lane : ℕ) → lane < lane_count (length keys) → w ≢ Header group (header.Cut lane)) →
+      Header group header.Lanes ≢ w → word_named s new w ≡ word_named s with_error w
+  kept_last w is no_cut no_lanes =
+      cuts.kept w is no_cut
+      ∙ (stores_by_name s).kept with_error (Header group header.Lanes) w (lane_count (length keys))
+      is_lanes is no_lanes
+
+  pub header_laid : LaysHeader s group pivot keys old new
   header_laid =
-      let by_name = stores_by_name l in
+      let by_name = stores_by_name s in
       record {
         wide = cuts.wide
-            ∙ (length-set with_error (address_of l (Header 0 header.Lanes)) (lane_count (length keys))
+            ∙ (length-set with_error (address_of s (Header group header.Lanes)) (lane_count (length keys))
             ∙ (wide_error ∙ sym wide));
-        size = cuts.kept (Header 0 header.Size) is_size (λ lane some lt e. cc)
-            ∙ (by_name.kept with_error (Header 0 header.Lanes) (Header 0 header.Size)
-            (lane_count (length keys)) is_lanes is_size (λ e. cc)
-            ∙ (by_name.kept with_size (Header 0 header.LineError) (Header 0 header.Size)
+        begins = kept_last (Header group header.Pivot) is_pivot (λ lane lt e. cc) (λ e. cc)
+            ∙ (by_name.kept with_size (Header group header.LineError) (Header group header.Pivot)
+            (error_of keys) is_error is_pivot (λ e. cc)
+            ∙ (by_name.kept with_pivot (Header group header.Size) (Header group header.Pivot)
+            (length keys) is_size is_pivot (λ e. cc)
+            ∙ by_name.stored old (Header group header.Pivot) pivot wide is_pivot));
+        size = kept_last (Header group header.Size) is_size (λ lane lt e. cc) (λ e. cc)
+            ∙ (by_name.kept with_size (Header group header.LineError) (Header group header.Size)
             (error_of keys) is_error is_size (λ e. cc)
-            ∙ by_name.stored old (Header 0 header.Size) (length keys) wide is_size));
-        error = cuts.kept (Header 0 header.LineError) is_error (λ lane some lt e. cc)
-            ∙ (by_name.kept with_error (Header 0 header.Lanes) (Header 0 header.LineError)
-            (lane_count (length keys)) is_lanes is_error (λ e. cc)
-            ∙ by_name.stored with_size (Header 0 header.LineError) (error_of keys) wide_size
-            is_error);
-        lanes = cuts.kept (Header 0 header.Lanes) is_lanes (λ lane some lt e. cc)
-            ∙ by_name.stored with_error (Header 0 header.Lanes) (lane_count (length keys)) wide_error
-            is_lanes;
+            ∙ by_name.stored with_pivot (Header group header.Size) (length keys) wide_pivot is_size);
+        error = kept_last (Header group header.LineError) is_error (λ lane lt e. cc) (λ e. cc)
+            ∙ by_name.stored with_size (Header group header.LineError) (error_of keys) wide_size
+            is_error;
+        lanes = cuts.kept (Header group header.Lanes) is_lanes (λ lane lt e. cc)
+            ∙ by_name.stored with_error (Header group header.Lanes) (lane_count (length keys))
+            wide_error is_lanes;
         cuts = cuts.cuts;
         kept = λ w is none.
-            cuts.kept w is (λ lane some lt e. none (inr (inr (inr (lane, some, lt, e)))))
-            ∙ (by_name.kept with_error (Header 0 header.Lanes) w (lane_count (length keys)) is_lanes
-            is (λ e. none (inr (inr (inl (sym e)))))
-            ∙ (by_name.kept with_size (Header 0 header.LineError) w (error_of keys) is_error is
-            (λ e. none (inr (inl (sym e))))
-            ∙ by_name.kept old (Header 0 header.Size) w (length keys) is_size is
-            (λ e. none (inl (sym e)))));
+            kept_last w is (λ lane lt e. none (header.Cut lane) lt e)
+            (λ e. none header.Lanes tt (sym e))
+            ∙ (by_name.kept with_size (Header group header.LineError) w (error_of keys) is_error is
+            (λ e. none header.LineError tt (sym e))
+            ∙ (by_name.kept with_pivot (Header group header.Size) w (length keys) is_size is
+            (λ e. none header.Size tt (sym e))
+            ∙ by_name.kept old (Header group header.Pivot) w pivot is_pivot is
+            (λ e. none header.Pivot tt (sym e))));
       }

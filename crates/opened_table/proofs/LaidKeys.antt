@@ -1,10 +1,9 @@
 -- The keys of rows, by their places.
-use Rattle.std.proofs.Common.{◌≡◌, ℕ, zero, suc, ◌+◌, ◌<◌, List, [], ◌∷◌, length, slice_index, slice_index_or, refl, sym, subst, arith}
+use Rattle.std.proofs.Common.{◌≡◌, ℕ, zero, suc, ◌+◌, ◌<◌, [], ◌∷◌, length, slice_index, slice_index_or, refl, sym, subst, arith}
 use Rattle.std.proofs.lemmas.List.{length-map}
-use Rattle.std.specs.List.{AllByRecursion}
 use Rattle.std.specs.List.Sorted.{IsStrictlyIncreasing}
 use Rattle.map_model.specs.Map.{Map, IsRising}
-use Rattle.index_machine.specs.OpeningRows.{keys_in}
+use Rattle.opened_table.specs.Laying.{keys_in}
 
 -- as many as rows
 pub length_of_keys : (rows : Map) → length (keys_in rows) ≡ length rows

@@ -1,4 +1,10 @@
+pub mod GroupRows
 pub mod Laid
+pub mod LaidArrays
 pub mod LaidHeaders
 pub mod LaidKeys
+pub mod LaidLinks
+pub mod LaidParts
+pub mod LaidRoots
 pub mod LaidRows
+pub mod PartRows

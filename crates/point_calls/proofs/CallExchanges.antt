@@ -121,8 +121,8 @@ none_before b h l n key lane of comes walks =
     let reaches = comes.reaches in
     few_behind no_exchange h l n
     (few_behind no_exchange h there l
-    (none_made b h (LoadSlotGroup 0 0 g ∷ LoadRoot reaches.root ∷ []) there of reaches.steps refl refl
-    refl)
+    (none_made b h (LoadSlotGroup comes.part 0 0 g ∷ LoadRoot comes.part reaches.root ∷ []) there of
+    reaches.steps refl refl refl)
     (lanes_make_none b g 3 there l reaches.search.call.of comes.cuts))
     (walk_makes_none b g lane.number l n comes.search.call.of walks)
 

@@ -1,11 +1,21 @@
--- How a caller comes to the group of the root's slot.
-use Rattle.std.proofs.Common.{◌≡◌, ℕ, ◌≤◌, refl, sym, ◌∙◌, subst, arith}
-use Rattle.std.proofs.Common.{le-ltb}
+-- How a caller comes to the part of a key, and by the slot of the part's root to the key's group.
+use Rattle.std.proofs.Common.{List, ◌≡◌, ℕ, ◌^◌, ◌<◌, ◌≤◌, refl, sym, ap, ◌∙◌, subst, arith}
+use Rattle.std.proofs.Math.Nat.{mul-le-mul_right}
+use Rattle.word_layout.specs.declared.layout.Layout.{Layout}
+use Rattle.word_layout.specs.Layout.{bounds_of}
+use Rattle.word_layout.specs.Parts.{HasKeyAlone}
+use Rattle.word_layout.specs.Shape.{first_group_of}
+use Rattle.word_layout.proofs.PartGroups.{first_group-exists}
 use Rattle.index_machine.specs.declared.events.Action.TheVariants.{LoadRoot, LoadSlotGroup}
 use Rattle.index_machine.specs.declared.opening.Opening.{Opening}
-use Rattle.index_machine.specs.Openings.{greatest_key, opening_group}
+use Rattle.index_machine.specs.Keepers.{IsPart, IsKeyIn}
+use Rattle.index_machine.specs.OpeningRows.{opening_pivot}
+use Rattle.index_machine.specs.Openings.{opening_group}
 use Rattle.index_machine.specs.Reaching.{SeesSlot}
 use Rattle.index_machine.specs.Sections.{IsReading}
+use Rattle.index_machine.specs.Words.{limits, shape}
+use Rattle.index_machine.proofs.OfParts.{key_most}
+use Rattle.index_machine.proofs.OpeningGroups.{first_in_chain, opening_group-in, opening_pivot-group}
 use Rattle.machine_buffers.specs.Walks.{IsWalkable}
 use Rattle.index_rule.specs.declared.board.Board.{Board}
 use Rattle.index_rule.specs.declared.hand.Hand.{Hand}
@@ -19,52 +29,70 @@ use Rattle.point_calls.specs.Lookup.{Reaches}
 use Rattle.index_rule.specs.Calls.{CanCall}
 use Rattle.point_calls.proofs.Knowing.{IsIn, call_on, in_first, in_step}
 
--- group 0 answers for all keys at the opening
-pub opening_group_is : (o : Opening) (k : ℕ) → k ≤ greatest_key → opening_group o k ≡ 0
-opening_group_is o k most = rw (le-ltb k 0 (omega arith), le-ltb greatest_key k most) refl
+-- at the opening the first group of a part answers for all keys of the part
+pub opening_group_is : (o : Opening) (part k : ℕ) → IsPart o part → IsKeyIn o part k →
+    opening_group o k ≡ first_group_of (shape o) part
+opening_group_is o part k is_part is = opening_group-in o part k is_part is (key_most o part k is)
 
-module _ (b : Board) (h m : Hand) (word : ℕ) (can : CanCall b h) (loads : Makes b h (LoadRoot word) m)
-  where
-    pub reading_rooted : IsReading (opening_of b) m.number (known m)
-    reading_rooted = still_inside b h m (LoadRoot word) can.of loads tt can.reading
+-- its number is small
+first_below : (o : Opening) (part : ℕ) → IsPart o part → first_group_of (shape o) part < 2 ^ 32
+first_below o part is_part =
+    let few = o.layout.cut.few in
+    let most = o.layout.kept.most_groups in
+    let within : part ≤ 15 = omega arith in
+    omega (arith, mul-le-mul_right (limits o).groups within)
 
-    pub sees_slot : SeesSlot m.number 0 0 (known m)
-    sees_slot =
-        sees_after_root b h m word 0 0 can.of loads
-        (1, root_is b h m word can.of loads, omega arith, omega arith)
+module _ (b : Board) (h m : Hand) (part word : ℕ) (can : CanCall b h)
+    (is_part : IsPart (opening_of b) part) (loads : Makes b h (LoadRoot part word) m) where
+  pub reading_rooted : IsReading (opening_of b) m.number (known m)
+  reading_rooted = still_inside b h m (LoadRoot part word) can.of loads tt can.reading
 
-    module _ (k : Hand) (group : ℕ) (names : Makes b m (LoadSlotGroup 0 0 group) k) where
-      pub group_is : group ≡ 0
-      group_is = slot_is b m k 0 0 group loads.of names
+  pub sees_slot : SeesSlot m.number part 0 0 (known m)
+  sees_slot =
+      sees_after_root b h m part word 0 0 can.of loads
+      (1, root_is b h m part word can.of loads, omega arith, omega arith)
 
-      pub in_located : IsIn b h k
-      in_located =
-          in_step b h m k (LoadSlotGroup 0 0 group) tt tt names
-          (in_first b h m (LoadRoot word) tt tt can.of loads)
+  module _ (k : Hand) (group : ℕ) (names : Makes b m (LoadSlotGroup part 0 0 group) k) where
+    group_is : group ≡ first_group_of (shape (opening_of b)) part
+    group_is = slot_is b m k part 0 0 group loads.of names
 
-      pub comes_to : Reaches b h group k
-      comes_to =
-          let o = opening_of b in
-          let load = LoadSlotGroup 0 0 group in
-          let call = call_on b m k load tt (λ z. z) names (call_on b h m (LoadRoot word) tt (λ z. z) loads can) in
-          let here : opening_group o 0 ≡ group =
-          opening_group_is o 0 (omega arith) ∙ sym group_is in
-          let least = o.layout.kept.least_groups in
-          let is : group ≡ 0 = group_is in
-          record {
-            number = names.number ∙ loads.number;
-            search = record {
-              call = call;
-              stands = stands_after_slot b m k 0 0 group loads.of names;
-              walkable = subst (λ (g : ℕ). IsWalkable o g (known k)) here
-                  (opened_walkable o (known k) in_located.follows.valid in_located.follows.built 0).0;
-              in_table = omega arith;
-            };
-            root = word;
-            steps = (m, (h, refl, loads), names);
-            answers = λ key most.
-                ((groups_as_opened o (known k) in_located.follows.built).0 key).0
-                ∙ (opening_group_is o key most ∙ sym group_is);
-            no_entry = no_entry b m k load loads.of names (λ o t log. refl)
-                ∙ no_entry b h m (LoadRoot word) can.of loads (λ o t log. refl);
-          }
+    pub group_below : group < 2 ^ 32
+    group_below =
+        let below = first_below (opening_of b) part is_part in
+        let is = group_is in omega arith
+
+    pub in_located : IsIn b h k
+    in_located =
+        in_step b h m k (LoadSlotGroup part 0 0 group) tt tt names
+        (in_first b h m (LoadRoot part word) tt tt can.of loads)
+
+    pub comes_to : Reaches b h part group k
+    comes_to =
+        let o = opening_of b in
+        let load = LoadSlotGroup part 0 0 group in
+        let call = call_on b m k load tt (λ z. z) names
+        (call_on b h m (LoadRoot part word) tt (λ z. z) loads can) in
+        let first : ℕ = first_group_of (shape o) part in
+        let pivot : ℕ = opening_pivot o first in
+        let here : opening_group o pivot ≡ group =
+        (opening_pivot-group o first (first_in_chain o part is_part)).1 ∙ sym group_is in
+        let least = o.layout.kept.least_groups in
+        let exists = first_group-exists (shape o) part (omega arith) is_part in
+        let is : group ≡ first = group_is in
+        record {
+          number = names.number ∙ loads.number;
+          search = record {
+            call = call;
+            stands = stands_after_slot b m k part 0 0 group loads.of names;
+            walkable = subst (λ (g : ℕ). IsWalkable o g (known k)) here
+                (opened_walkable o (known k) in_located.follows.valid in_located.follows.built pivot).0;
+            in_table = omega arith;
+          };
+          root = word;
+          steps = (m, (h, refl, loads), names);
+          answers = λ key of.
+              ((groups_as_opened o (known k) in_located.follows.built).0 key).0
+              ∙ (opening_group_is o part key is_part of ∙ sym group_is);
+          no_entry = no_entry b m k load loads.of names (λ o t log. refl)
+              ∙ no_entry b h m (LoadRoot part word) can.of loads (λ o t log. refl);
+        }

@@ -2,7 +2,7 @@
 use Rattle.std.proofs.Common.{◌≡◌, ℕ, ◌≤◌, inl, ⊎_elim, Some, None, []}
 use Rattle.std.proofs.Common.{false, sym, ap, ◌∙◌, subst}
 use Rattle.map_model.specs.Map.{Map, look}
-use Rattle.word_layout.specs.Layout.{limits_of}
+use Rattle.word_layout.specs.Layout.{shape_of}
 use Rattle.word_layout.specs.declared.phase.Phase.TheVariants.{Open, Opened}
 use Rattle.index_machine.specs.declared.opening.Opening.{Opening}
 use Rattle.index_machine.specs.declared.events.Action.TheVariants.{LoadRoot, LoadSlotGroup}
@@ -11,7 +11,9 @@ use Rattle.index_machine.specs.Execution.{Execution}
 use Rattle.index_machine.specs.KeyRanges.{group_of}
 use Rattle.index_machine.specs.LivePlaces.{value_in_map}
 use Rattle.index_machine.specs.OpeningRows.{opening_row, row_from}
-use Rattle.index_machine.specs.Openings.{greatest_key, opening_group}
+use Rattle.word_layout.specs.Parts.{greatest_key, HasKeyAlone}
+use Rattle.index_machine.specs.Words.{shape}
+use Rattle.index_machine.specs.Openings.{opening_group}
 use Rattle.index_machine.specs.Represents.{has_stale_phase}
 use Rattle.index_machine.specs.Rows.{InArray, InBuffer, role, role_key}
 use Rattle.index_machine.proofs.OpeningRows.{opening_role-array}
@@ -53,7 +55,7 @@ no_array o t empty valid built group k place is =
     let row = opening_role-array o place group k
     ((arrays_as_opened o t valid built group k place).1 is) in
     let none : opening_row o place ≡ None =
-    ap (λ (all : Map). row_from (limits_of o.layout) 0 all place) empty in
+    ap (λ (all : Map). row_from (shape_of o.layout) 0 0 all place) empty in
     no_pair (sym none ∙ row.2)
 
 -- a key without a row in the buffer of its group is not in the map
@@ -105,36 +107,41 @@ group_reached b h l n key lane comes il i most =
     comes.own
 
 -- it is within its call there
-pub in_reaches : (b : Board) (h k : Hand) (g : ℕ) → IsHandOf b h → Reaches b h g k → IsIn b h k
-in_reaches b h k g of comes =
+pub in_reaches : (b : Board) (h k : Hand) (part g : ℕ) → IsHandOf b h → Reaches b h part g k →
+    IsIn b h k
+in_reaches b h k part g of comes =
     let s = comes.steps in
     let m : Hand = s.0 in
-    let loads : Makes b h (LoadRoot comes.root) m =
-    subst (λ (z : Hand). Makes b z (LoadRoot comes.root) m) s.1.1 s.1.2 in
-    in_step b h m k (LoadSlotGroup 0 0 g) tt tt s.2 (in_first b h m (LoadRoot comes.root) tt tt of loads)
+    let loads : Makes b h (LoadRoot part comes.root) m =
+    subst (λ (z : Hand). Makes b z (LoadRoot part comes.root) m) s.1.1 s.1.2 in
+    in_step b h m k (LoadSlotGroup part 0 0 g) tt tt s.2
+    (in_first b h m (LoadRoot part comes.root) tt tt of loads)
 
 pub in_comes : (b : Board) (h k : Hand) (key : ℕ) (lane : Lane) → IsHandOf b h →
     ComesTo b h key lane k → IsIn b h k
 in_comes b h k key lane of comes =
     in_lanes b lane.group 3 h comes.there k comes.cuts
-    (in_reaches b h comes.there lane.group of comes.reaches)
+    (in_reaches b h comes.there comes.part lane.group of comes.reaches)
 
 -- the choice of the lane leaves the caller in the key's group
-pub comes_lane : (b : Board) (h m k : Hand) (g lane key : ℕ) → IsHandOf b h →
-    key ≤ greatest_key → Reaches b h g m → LoadsLanes b g 3 m k → k.number ≡ m.number →
+pub comes_lane : (b : Board) (h m k : Hand) (part g lane key : ℕ) → IsHandOf b h →
+    HasKeyAlone (shape (opening_of b)).bounds part key → Reaches b h part g m →
+    LoadsLanes b g 3 m k → k.number ≡ m.number →
     CanSearch b g k → HasLane (opening_of b) g lane key (known k) → AddsNoEntry m k →
     ComesTo b h key (record { group = g; number = lane }) k
-comes_lane b h m k g lane key of most reaches cuts number can has none =
-    let im = in_reaches b h m g of reaches in
+comes_lane b h m k part g lane key of alone reaches cuts number can has none =
+    let im = in_reaches b h m part g of reaches in
     let ik = in_lanes b g 3 h m k cuts im in
     record {
+      part = part;
+      alone = alone;
       there = m;
       reaches = reaches;
       cuts = cuts;
       number = number ∙ reaches.number;
       search = can;
       own = group_stays (opening_of b) (known m) (known k) im.follows.built ik.follows.built key g
-          (reaches.answers key most);
+          (reaches.answers key alone.has);
       in_lane = has;
       no_entry = none ∙ reaches.no_entry;
     }

@@ -1,10 +1,12 @@
 -- How a caller comes to the group of a key, and what it knows of a key that it did not find.
-use Rattle.std.specs.Prelude.{◌≡◌, ℕ, ◌≤◌, None, [], ◌∷◌}
+use Rattle.std.specs.Prelude.{◌≡◌, ℕ, None, [], ◌∷◌}
 use Rattle.index_machine.specs.declared.events.Action.TheVariants.{LoadRoot, LoadSlotGroup}
 use Rattle.index_machine.specs.Execution.{Execution}
 use Rattle.index_machine.specs.KeyRanges.{group_of}
 use Rattle.index_machine.specs.LivePlaces.{value_in_map}
-use Rattle.index_machine.specs.Openings.{greatest_key}
+use Rattle.index_machine.specs.Keepers.{IsKeyIn}
+use Rattle.index_machine.specs.Words.{shape}
+use Rattle.word_layout.specs.Parts.{HasKeyAlone}
 use Rattle.index_rule.specs.declared.board.Board.{Board}
 use Rattle.index_rule.specs.declared.hand.Hand.{Hand}
 use Rattle.index_rule.specs.Buffers.{CanSeePhase}
@@ -16,20 +18,24 @@ use Rattle.sorted_group.specs.Loads.{LoadsLanes}
 use Rattle.sorted_group.specs.Standing.{CanSearch}
 use Rattle.point_calls.specs.PointCalls.{IsCallSoFar, KeepsRows}
 
--- the caller loaded the root and the group of its one slot, and stands in this group, which answers for
--- every key
-pub record Reaches (b : Board) (h : Hand) (group : ℕ) (k : Hand) : Type 0 where
+-- the caller loaded the root word of this part and the group of its one slot, and stands in this group,
+-- which answers for every key of the part
+pub record Reaches (b : Board) (h : Hand) (part group : ℕ) (k : Hand) : Type 0 where
   pub number : k.number ≡ h.number
   pub search : CanSearch b group k
   pub root : ℕ
-  pub steps : MakesAll b h (LoadSlotGroup 0 0 group ∷ LoadRoot root ∷ []) k
-  pub answers : (key : ℕ) → key ≤ greatest_key → group_of (opening_of b) key (known k) ≡ group
+  pub steps : MakesAll b h (LoadSlotGroup part 0 0 group ∷ LoadRoot part root ∷ []) k
+  pub answers : (key : ℕ) → IsKeyIn (opening_of b) part key →
+      group_of (opening_of b) key (known k) ≡ group
   pub no_entry : AddsNoEntry h k
 
--- the caller came to the group, which is the key's, and loaded which of its lanes has the key
+-- the caller came by the root of the one part that has the key to the key's group, and loaded which of
+-- its lanes has the key
 pub record ComesTo (b : Board) (h : Hand) (key : ℕ) (lane : Lane) (k : Hand) : Type 0 where
+  pub part : ℕ
+  pub alone : HasKeyAlone (shape (opening_of b)).bounds part key
   pub there : Hand
-  pub reaches : Reaches b h lane.group there
+  pub reaches : Reaches b h part lane.group there
   pub cuts : LoadsLanes b lane.group 3 there k
   pub number : k.number ≡ h.number
   pub search : CanSearch b lane.group k

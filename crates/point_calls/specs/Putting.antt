@@ -13,7 +13,7 @@ use Rattle.index_machine.specs.KeyRanges.{group_of}
 use Rattle.index_machine.specs.LivePlaces.{value_in_map}
 use Rattle.index_machine.specs.Reaching.{saw_open}
 use Rattle.index_machine.specs.Rows.{Holds}
-use Rattle.index_machine.specs.Words.{limits, link_behind}
+use Rattle.index_machine.specs.Words.{shape, link_behind}
 use Rattle.machine_readers.specs.Buffers.{rows}
 use Rattle.index_rule.specs.declared.board.Board.{Board}
 use Rattle.index_rule.specs.declared.hand.Hand.{Hand}
@@ -82,7 +82,7 @@ pub record LosesLink (b : Board) (h : Hand) (address expected found : ℕ) (k : 
   pub group : ℕ
   pub lane : ℕ
   pub before : ℕ
-  pub is_address : address ≡ address_of (limits (opening_of b)) (link_behind group lane before)
+  pub is_address : address ≡ address_of (shape (opening_of b)) (link_behind group lane before)
   pub steps : MakesThen h (link_behind group lane before) (load_of_link group lane before expected)
       (FailLink group lane before expected found) k
   pub differ : expected ≢ found

@@ -1,5 +1,7 @@
-//! The group and the lane of a key, and the look that ends a call which found it or missed it.
+//! The part, the group and the lane of a key, and the look that ends a call which found it or missed it.
 ghost use Rattle.std.specs.Prelude.{◌≡◌, None};
+ghost use Rattle.index_machine.specs.Keepers.{IsPart};
+ghost use Rattle.index_rule.specs.Hands.{opening_of};
 ghost use Rattle.index_rule.specs.Looks.{MayWriteLook};
 ghost use Rattle.tried_calls.specs.declared.tried.Tried.TheVariants.{Done};
 ghost use Rattle.index_rule.specs.Calls.{CanCall};
@@ -13,26 +15,29 @@ use std::marker::Brand;
 use std::snapshot::Snapshot;
 use tried_calls::Tried;
 
-/// The lane of the key: from the root to the key's group, and there by the cuts of its lanes.
+/// The lane of the key: from the root of the key's part to the key's group, and there by the cuts of its
+/// lanes.
 #[inline]
 pub(crate) fn locate(board: &Board, hand: &mut Hand, key: u64) -> Lane
     requires { CanCall board.now hand.old }
     ensures comes { ComesTo board.now hand.old key result hand.new }
     ensures rows { KeepsRows board.now hand.old hand.new }
 {
-    let group = reach(board, hand);
+    let part = board.part_of(key);
+    let group = reach(board, hand, part);
     lane_for(board, hand, group, key)
 }
 
-/// Loads the group of the root's slot.
+/// Loads the root word of the part, and the group of its one slot.
 #[inline]
-fn reach(board: &Board, hand: &mut Hand) -> u32
-    requires { CanCall board.now hand.old }
-    ensures comes { Reaches board.now hand.old result hand.new }
+fn reach(board: &Board, hand: &mut Hand, part: u32) -> u32
+    requires call { CanCall board.now hand.old }
+    requires part { IsPart (opening_of board.now) part }
+    ensures comes { Reaches board.now hand.old part result hand.new }
     ensures rows { KeepsRows board.now hand.old hand.new }
 {
-    board.load_root(hand);
-    board.load_slot_group(hand, 0, 0) as u32
+    board.load_root(hand, part);
+    board.load_slot_group(hand, part, 0, 0) as u32
 }
 
 /// Ends the call, which missed the key.

@@ -1,4 +1,4 @@
-//! Read sections of callers, and the barrier by which the keeper waits for those that were inside.
+//! Read sections of callers, and the barrier by which a keeper waits for those that were inside.
 //!
 //! A barrier is over once each caller was outside at its mark, or has left that read section since. What a caller can
 //! come to rely on only before the barrier, it has lost by then.

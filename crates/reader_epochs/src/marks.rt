@@ -3,7 +3,8 @@
 //! A caller passes where its mark is even, or where its word is even or another than its mark. Who has passed is not
 //! looked at again, so a caller that enters anew is not waited for.
 ghost use Rattle.std.specs.Prelude.{◌≡◌, ◌%◌, MatchBool};
-ghost use Rattle.index_machine.specs.Sections.{IsKeeper, IsQuiescent};
+ghost use Rattle.index_machine.specs.Sections.{IsQuiescent};
+ghost use Rattle.index_machine.specs.Keepers.{IsKeeper};
 ghost use Rattle.index_rule.specs.Hands.{IsHandOf, MakesAll, known, opening_of};
 ghost use Rattle.reader_epochs.specs.Marking.{AreMarks, Checked, Passes, beginning, epoch_loads, words_of};
 

@@ -1,6 +1,9 @@
 -- What is kept of a list of rows, and that rising pairs are known by what they tell of each key.
 use Rattle.std.proofs.Common.{◌≡◌, ◌≢◌, ℕ, ◌+◌, ◌<◌, ◌≤◌, Option, Some, None, [], ◌∷◌, ◌++◌}
-use Rattle.std.proofs.Common.{Result, Ok, is_ok, cond, length, refl, sym, ap, ◌∙◌, arith, append_assoc, append-nil}
+use Rattle.std.proofs.Common.{Bool, true, false, Result, Ok, is_ok, cond, length, refl, sym, ap, ◌∙◌, subst, arith}
+use Rattle.std.proofs.Common.{append_assoc, append-nil}
+use Rattle.std.specs.Prelude.{filter}
+use Rattle.std.specs.List.{AllByRecursion}
 use Rattle.std.proofs.lemmas.Bool.Decides.{nat_tests}
 use mathlib.Core.Logic.{dite}
 use native.Mathlib.Decide.{ℕ_discrete}
@@ -35,10 +38,11 @@ from_none : (low : ℕ) → first_from [] low ≡ None
 unfolding first_from
 from_none low = refl
 
--- a walk begins with the first row
-pub from_zero : (m : Map) → first_from m 0 ≡ first_of m
-from_zero [] = from_none 0
-from_zero (r ∷ rs) = from_here r rs 0 (omega arith)
+-- a walk from a key on, below which there is none, begins with the first row
+pub from_least : (low : ℕ) (m : Map) → AllByRecursion (λ (r : ℕ × ℕ). low ≤ r.0) m →
+    first_from m low ≡ first_of m
+from_least low [] all = from_none low
+from_least low (r ∷ rs) all = from_here r rs low all.0
 
 from_next : (a : ℕ) (m : Map) → AllAbove a m → first_from m (a + 1) ≡ first_of m
 from_next a [] above = from_none (a + 1)
@@ -151,6 +155,104 @@ look_kept value (r ∷ rs) k rising =
     (λ (other : r.0 ≢ k).
     pair_other r.0 (value r.1) (kept value rs) k other
     ∙ (look_kept value rs k rising.1 ∙ ap (value_at value) (sym (look_other r rs k other))))
+
+-- ---- the pairs whose keys pass a test ----
+
+tested-same : (test : ℕ → Bool) (r : ℕ × ℕ) (m : Map) → test r.0 ≡ true →
+    filter (λ (q : ℕ × ℕ). test q.0) (r ∷ m) ≡ r ∷ filter (λ (q : ℕ × ℕ). test q.0) m
+tested-same test r m is =
+    ap (λ (b : Bool). cond b (r ∷ filter (λ (q : ℕ × ℕ). test q.0) m) (filter (λ (q : ℕ × ℕ). test q.0) m))
+    is
+
+tested-other : (test : ℕ → Bool) (r : ℕ × ℕ) (m : Map) → test r.0 ≡ false →
+    filter (λ (q : ℕ × ℕ). test q.0) (r ∷ m) ≡ filter (λ (q : ℕ × ℕ). test q.0) m
+tested-other test r m is =
+    ap (λ (b : Bool). cond b (r ∷ filter (λ (q : ℕ × ℕ). test q.0) m) (filter (λ (q : ℕ × ℕ). test q.0) m))
+    is
+
+above_tested : (test : ℕ → Bool) (a : ℕ) (m : Map) → AllAbove a m →
+    AllAbove a (filter (λ (q : ℕ × ℕ). test q.0) m)
+above_tested test a [] above = tt
+above_tested test a (r ∷ m) above = go (above_tested test a m above.1) (test r.0) refl
+  where
+    go : AllAbove a (filter (λ (q : ℕ × ℕ). test q.0) m) → (b : Bool) → test r.0 ≡ b →
+        AllAbove a (filter (λ (q : ℕ × ℕ). test q.0) (r ∷ m))
+    go rest true is = subst (AllAbove a) (sym (tested-same test r m is)) (above.0, rest)
+    go rest false is = subst (AllAbove a) (sym (tested-other test r m is)) rest
+
+-- they rise
+pub rising_tested : (test : ℕ → Bool) (m : Map) → IsRising m →
+    IsRising (filter (λ (q : ℕ × ℕ). test q.0) m)
+rising_tested test [] rising = tt
+rising_tested test (r ∷ m) rising = go (rising_tested test m rising.1) (test r.0) refl
+  where
+    go : IsRising (filter (λ (q : ℕ × ℕ). test q.0) m) → (b : Bool) → test r.0 ≡ b →
+        IsRising (filter (λ (q : ℕ × ℕ). test q.0) (r ∷ m))
+    go rest true is = subst IsRising (sym (tested-same test r m is))
+        (above_tested test r.0 m rising.0, rest)
+    go rest false is = subst IsRising (sym (tested-other test r m is)) rest
+
+none_tested : (b : Bool) (k : ℕ) → look [] k ≡ cond b (look [] k) None
+unfolding look
+none_tested true k = refl
+none_tested false k = refl
+
+-- a key that passes has its value, and no other key is there
+pub look_tested : (test : ℕ → Bool) (m : Map) (k : ℕ) →
+    look (filter (λ (q : ℕ × ℕ). test q.0) m) k ≡ cond (test k) (look m k) None
+look_tested test [] k = none_tested (test k) k
+look_tested test (r ∷ m) k = go (look_tested test m k) (test r.0) refl
+  where
+    rest : Map
+    rest = filter (λ (q : ℕ × ℕ). test q.0) m
+
+    -- the first pair is another key's
+    other : look rest k ≡ cond (test k) (look m k) None → r.0 ≢ k →
+        look rest k ≡ cond (test k) (look (r ∷ m) k) None
+    other told differ =
+        told ∙ ap (λ (z : Option ℕ). cond (test k) z None) (sym (look_other r m k differ))
+
+    -- the first pair is the key's, and does not pass
+    dropped : look rest k ≡ cond (test k) (look m k) None → test r.0 ≡ false → r.0 ≡ k →
+        look rest k ≡ cond (test k) (look (r ∷ m) k) None
+    dropped told is here =
+        let out : test k ≡ false = ap test (sym here) ∙ is in
+        told
+        ∙ (ap (λ (b : Bool). cond b (look m k) None) out
+        ∙ ap (λ (b : Bool). cond b (look (r ∷ m) k) None) (sym out))
+
+    -- it is, and passes
+    passed : test r.0 ≡ true → r.0 ≡ k →
+        look (r ∷ rest) k ≡ cond (test k) (look (r ∷ m) k) None
+    passed is here =
+        ap (look (r ∷ rest)) (sym here)
+        ∙ (look_first r rest
+        ∙ (sym (look_first r m)
+        ∙ (ap (look (r ∷ m)) here
+        ∙ ap (λ (b : Bool). cond b (look (r ∷ m) k) None) (sym is ∙ ap test here))))
+
+    go : look rest k ≡ cond (test k) (look m k) None → (b : Bool) → test r.0 ≡ b →
+        look (filter (λ (q : ℕ × ℕ). test q.0) (r ∷ m)) k ≡ cond (test k) (look (r ∷ m) k) None
+    go told true is =
+        ap (λ (z : Map). look z k) (tested-same test r m is)
+        ∙ dite (ℕ_discrete r.0 k) (passed is)
+        (λ (differ : r.0 ≢ k). look_other r rest k differ ∙ other told differ)
+    go told false is =
+        ap (λ (z : Map). look z k) (tested-other test r m is)
+        ∙ dite (ℕ_discrete r.0 k) (dropped told is) (other told)
+
+-- where all pass, they are those pairs
+pub all_tested : (test : ℕ → Bool) (m : Map) → ((k : ℕ) → test k ≡ true) →
+    filter (λ (q : ℕ × ℕ). test q.0) m ≡ m
+all_tested test [] all = refl
+all_tested test (r ∷ m) all =
+    tested-same test r m (all r.0) ∙ ap (λ (z : Map). r ∷ z) (all_tested test m all)
+
+-- and where none does, there are none
+pub none_pass : (test : ℕ → Bool) (m : Map) → ((k : ℕ) → test k ≡ false) →
+    filter (λ (q : ℕ × ℕ). test q.0) m ≡ []
+none_pass test [] none = refl
+none_pass test (r ∷ m) none = tested-other test r m (none r.0) ∙ none_pass test m none
 
 -- ---- rising pairs are known by their keys ----
 

@@ -1,3 +1,4 @@
-mod KeptPairs
-mod OneGroup
-mod RestingWords
+pub mod FirstGroups
+pub mod KeptPairs
+pub mod RestingWords
+pub mod RowsBefore

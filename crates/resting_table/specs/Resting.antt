@@ -2,10 +2,12 @@
 -- version lock.
 --
 -- The fact to remember: then each row's words tell its key, whether it has a value, and which.
-use Rattle.std.specs.Prelude.{◌≡◌, ℕ, List, []}
+use Rattle.std.specs.Prelude.{◌≡◌, ℕ, List, [], filter, nat_lt}
 use Rattle.map_model.specs.History.{after}
 use Rattle.map_model.specs.Map.{Map}
 use Rattle.word_layout.specs.declared.layout.Layout.{Layout}
+use Rattle.word_layout.specs.Layout.{bounds_of}
+use Rattle.word_layout.specs.Parts.{part_with}
 use Rattle.index_machine.specs.declared.opening.Opening.{Opening}
 use Rattle.index_machine.specs.Conditions.{Valid}
 use Rattle.index_machine.specs.Execution.{Execution}
@@ -33,3 +35,13 @@ AreAtRest l words = (o : Opening) × (t : Execution) × LeaveAtRest l words o t
 abbrev pub TellPairs : Layout → List ℕ → Map → Type 0
 TellPairs l words pairs =
     (o : Opening) (t : Execution) → LeaveAtRest l words o t → pairs ≡ after (opening_map o) (history t)
+
+-- the pairs whose keys are in the first parts, so many
+abbrev pub pairs_before : List ℕ → ℕ → Map → Map
+pairs_before bounds many pairs = filter (λ pair. nat_lt (part_with bounds pair.0) many) pairs
+
+-- whichever execution leaves the words so, these are the pairs that it leaves in the first parts, so many
+abbrev pub TellPairsBefore : Layout → List ℕ → ℕ → Map → Type 0
+TellPairsBefore l words many pairs =
+    (o : Opening) (t : Execution) → LeaveAtRest l words o t →
+    pairs ≡ pairs_before (bounds_of l) many (after (opening_map o) (history t))

@@ -1,8 +1,7 @@
 -- Where no record row is free, each one is in a hand or came into a buffer by a change.
-use Rattle.std.proofs.Common.{◌≡◌, ◌≢◌, ◌⊎◌, inl, inr, ℕ, ◌+◌, ◌<◌, ◌≤◌, Bool, true, false, cond}
-use Rattle.std.proofs.Common.{List, [], ◌∷◌, ◌++◌, refl, sym, ap, ◌∙◌, subst, arith, eq-eqb}
-use mathlib.Core.Logic.{dite}
-use native.Mathlib.Decide.{ℕ_discrete}
+use Rattle.std.proofs.Common.{⊎_elim, le-leb, ◌≡◌, ◌≢◌, ◌⊎◌, inl, inr, ℕ, ◌+◌, ◌<◌, ◌≤◌, Bool, true, false, cond}
+use Rattle.std.proofs.Common.{List, [], ◌∷◌, ◌++◌, refl, sym, ap, ◌∙◌, subst, arith}
+use Rattle.std.proofs.lemmas.Bool.{cases_lt}
 use Rattle.map_model.specs.History.{History, after, inserts, is_inserting}
 use Rattle.map_model.specs.Map.{Map}
 use Rattle.map_model.specs.declared.entries.Change.{Change}
@@ -19,7 +18,7 @@ use Rattle.index_machine.specs.Openings.{opening_map}
 use Rattle.index_machine.specs.RowLaws.{Chain}
 use Rattle.index_machine.specs.Rows.{HeldBy, InArray, InBuffer, Role, Unused, free_stack}
 use Rattle.index_machine.specs.Rows.{role}
-use Rattle.index_machine.specs.Words.{limits, word}
+use Rattle.index_machine.specs.Words.{shape, limits, word}
 use Rattle.index_machine.proofs.Linking.{linked}
 use Rattle.index_machine.proofs.OpeningRows.{array_not_row}
 use Rattle.index_machine.proofs.Placing.{placed, rows-distinct}
@@ -31,7 +30,7 @@ use Rattle.row_arena.proofs.RowCounting.{all_counted, below_fewer}
 
 -- ---- whose each row is ----
 
--- the number of the hand that holds a row with this role, and that of the keeper where none does
+-- the number of the hand that holds a row with this role, and that of the first keeper where none does
 abbrev holder : ℕ → Role → ℕ
 holder keeper Unused = keeper
 holder keeper (HeldBy hand) = hand
@@ -45,25 +44,24 @@ holder_holds keeper hand (HeldBy h) low e = ap HeldBy e
 holder_holds keeper hand (InArray group k) low e = absurd (omega arith)
 holder_holds keeper hand (InBuffer group k) low e = absurd (omega arith)
 
--- a row in a hand is the keeper's or a caller's
-held_counted : (keeper hand : ℕ) → hand ≤ keeper →
+-- a row in a hand is a keeper's or a caller's
+held_counted : (keeper hand : ℕ) →
     (is_linked_or_retired keeper (HeldBy hand) ≡ true) ⊎ (hand < keeper)
-held_counted keeper hand most =
-    dite (ℕ_discrete hand keeper)
-    (λ (e : hand ≡ keeper). inl (eq-eqb hand keeper e))
-    (λ (differ : hand ≢ keeper). inr (omega arith))
+held_counted keeper hand =
+    ⊎_elim (λ (caller : hand < keeper). inr caller)
+    (λ (is : keeper ≤ hand). inl (le-leb keeper hand is)) (cases_lt hand keeper)
 
 module _ (o : Opening) (t : Execution) (valid : Valid o t) where
   -- the role of a row that is not free
-  counted_as : (place : ℕ) (r : Role) → role o place t ≡ r → IsRow (limits o) place → r ≢ Unused →
+  counted_as : (place : ℕ) (r : Role) → role o place t ≡ r → IsRow (shape o) place → r ≢ Unused →
       (is_linked_or_retired (limits o).callers r ≡ true)
       ⊎ (holder (limits o).callers r < (limits o).callers)
   counted_as place Unused e row used = absurd (used refl)
   counted_as place (HeldBy hand) e row used =
-      held_counted (limits o).callers hand ((placed o t valid).held hand place e).1
+      held_counted (limits o).callers hand
   counted_as place (InArray group k) e row used =
       let array = (placed o t valid).arrayed group k place e in
-      absurd (array_not_row (limits o) group place array.group_exists array.in_array row)
+      absurd (array_not_row (shape o) group place array.group_exists array.in_array row)
   counted_as place (InBuffer group k) e row used = inl refl
 
   -- ---- the free stack ----
@@ -80,7 +78,7 @@ module _ (o : Opening) (t : Execution) (valid : Valid o t) where
       let low = row.0 in
       absurd (omega arith)
 
-  none_free : word o t FreeHead ≡ 0 → (place : ℕ) → IsRow (limits o) place →
+  none_free : word o t FreeHead ≡ 0 → (place : ℕ) → IsRow (shape o) place →
       role o place t ≢ Unused
   none_free head place row e =
       stack_empty (free_stack o t) refl head place ((placed o t valid).all place row e)
@@ -91,8 +89,8 @@ pub no_free_row : NoFreeRowMeansUsedUp
 no_free_row o t caller valid is_caller head none =
     let keeper : ℕ = (limits o).callers in
     let f : ℕ → ℕ = λ place. holder keeper (role o place t) in
-    let distinct = rows-distinct (limits o) 0 (limits o).records in
-    let all = rows-length (limits o) 0 (limits o).records in
+    let distinct = rows-distinct (shape o) 0 (limits o).records in
+    let all = rows-length (shape o) 0 (limits o).records in
     let counted = all_counted f (λ place. is_linked_or_retired keeper (role o place t)) keeper
     (all_rows o)
     (λ place i.

@@ -1,6 +1,6 @@
-//! The keeper gives a row back to the free stack.
+//! A keeper gives a row back to the free stack.
 ghost use Rattle.std.specs.Prelude.{◌≡◌};
-ghost use Rattle.index_machine.specs.Sections.{IsKeeper};
+ghost use Rattle.index_machine.specs.Keepers.{IsKeeper};
 ghost use Rattle.index_machine.specs.Rows.{Holds};
 ghost use Rattle.index_machine.specs.ObservedHeads.{IsUnobserved};
 ghost use Rattle.index_rule.specs.Hands.{IsHandOf, known, opening_of};

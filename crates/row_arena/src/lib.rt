@@ -1,4 +1,4 @@
-//! The free record rows: a caller takes one, fills it, and the keeper gives rows back.
+//! The free record rows: a caller takes one, fills it, and a keeper gives rows back.
 #![tactic(auto)]
 
 mod giving;

@@ -1,2 +1,1 @@
 pub mod PlainSessions
-pub mod EnoughSessions

@@ -1,2 +1,1 @@
 pub mod PlainLaw
-pub mod EnoughLaw

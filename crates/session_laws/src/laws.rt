@@ -1,7 +1,6 @@
 //! What holds of all sessions over an index that nobody else changes.
 //!
 //! The functions do nothing: each has a law for its contract, and so the check proves the law.
-ghost use Rattle.session_laws.specs.EnoughLaw.{EnoughRefusesNothing};
 ghost use Rattle.session_laws.specs.PlainLaw.{BytesAloneHaveOneText, PlainSessionsHaveTheSameReplies};
 ghost use Rattle.session_laws.specs.PlainLaw.{SessionsAloneArePlain};
 
@@ -21,10 +20,4 @@ pub fn plain_sessions_have_the_same_replies()
 /// bytes that it took and by how it ended, unless the sink failed.
 pub fn bytes_alone_have_one_text()
     ensures { BytesAloneHaveOneText }
-{}
-
-/// Where an index has a record row for each put of a session and for each caller, and versions for all changes, no
-/// reply is `full` or `worn`.
-pub fn enough_refuses_nothing()
-    ensures { EnoughRefusesNothing }
 {}

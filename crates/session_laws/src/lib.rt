@@ -6,6 +6,5 @@
 mod laws;
 
 pub use laws::{
-    bytes_alone_have_one_text, enough_refuses_nothing, plain_sessions_have_the_same_replies,
-    sessions_alone_are_plain,
+    bytes_alone_have_one_text, plain_sessions_have_the_same_replies, sessions_alone_are_plain,
 };

@@ -1,4 +1,5 @@
--- Loads of a buffer change nothing: a hand can go on after them as before, be it a caller's or the keeper's.
+-- Loads of a buffer change nothing: a hand can go on after them as before, be it a caller's or that of the
+-- keeper of the group's part.
 use Rattle.std.proofs.Common.{◌≡◌, ℕ, inl, inr, ⊎_elim, Option, None, true, false, List, [], ◌∷◌, ◌++◌}
 use Rattle.std.proofs.Common.{append_assoc, refl, sym, ap, ◌∙◌, subst}
 use Rattle.word_layout.specs.declared.headers.HeaderWord.{HeaderWord}
@@ -15,7 +16,8 @@ use Rattle.index_machine.specs.Forms.{Unlocked, state_word}
 use Rattle.index_machine.specs.Places.{first_version}
 use Rattle.index_machine.specs.Reaching.{stands_in}
 use Rattle.index_machine.specs.Rows.{Holds, InBuffer, role}
-use Rattle.index_machine.specs.Sections.{IsKeeper, IsNoCrossing, IsReading, StaysInside}
+use Rattle.index_machine.specs.Sections.{IsNoCrossing, IsReading, StaysInside}
+use Rattle.index_machine.specs.Keepers.{IsGroupKeeper}
 use Rattle.index_machine.specs.Words.{Store, store_of, stored, word}
 use Rattle.index_machine.proofs.Holders.{TakesLock}
 use Rattle.index_machine.proofs.Placing.{KeepsRoles}
@@ -120,7 +122,7 @@ can_walk b g h can =
     ⊎_elim
     (λ (z : IsReading (opening_of b) h.number (known h) × (stands_in h.number g (known h) ≡ true)).
     inl (z.0, z.1, can.walkable))
-    (λ (z : IsKeeper (opening_of b) h.number). inr z) can.may_walk
+    (λ (z : IsGroupKeeper (opening_of b) h.number g). inr z) can.may_walk
 
 -- the caller can go on after a step by which it does not leave and takes no lock
 pub search_after : (b : Board) (g : ℕ) (h k : Hand) (d : Action) → IsNoCrossing d →
@@ -171,7 +173,7 @@ module _ (b : Board) (g : ℕ) (h k : Hand) (d : Action) (is : IsBufferLoad g d)
           may_walk = ⊎_elim
               (λ (z : IsReading o h.number (known h) × (stands_in h.number g (known h) ≡ true)).
               inl (still_inside b h k d can.of m none z.0, still_stands b h k d can.of m none g z.1))
-              (λ (z : IsKeeper o h.number). inr (m.number ∙ z)) can.may_walk;
+              (λ (z : IsGroupKeeper o h.number g). inr (m.number ∙ z)) can.may_walk;
           walkable = still_walkable;
           in_table = can.in_table;
         }

@@ -15,7 +15,7 @@ use Rattle.index_machine.proofs.Executions.{valid_before}
 use Rattle.index_machine.specs.Conditions.{Valid}
 use Rattle.index_machine.specs.Execution.{Execution}
 use Rattle.index_machine.specs.Lanes.{HasLane, cut, lanes}
-use Rattle.index_machine.specs.Openings.{greatest_key}
+use Rattle.word_layout.specs.Parts.{greatest_key}
 use Rattle.machine_buffers.specs.Walks.{AreRisingLanes}
 use Rattle.machine_buffers.proofs.BegunLanes.{cuts_rise, has_same, keys_have_lanes}
 use Rattle.index_rule.specs.declared.board.Board.{Board}

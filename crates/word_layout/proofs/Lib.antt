@@ -1,5 +1,6 @@
 mod Rules
 pub mod KeySpace
+pub mod PartGroups
 mod KeptBounds
 mod NamedAddresses
 pub mod WordNames

@@ -2,45 +2,67 @@
 use Rattle.std.proofs.Common.{◌≡◌, ◌∙◌, ⊎_elim, inl, inr, ℕ, ◌+◌, ◌-◌, ◌*◌, ◌/◌, ◌%◌, ◌<◌, ◌≤◌, refl, arith, zero, suc}
 use Rattle.std.proofs.lemmas.Bool.{cases_lt, lt-ltb, le-ltb}
 use Rattle.std.proofs.lemmas.Nat.{div-add-mod', div_below, mod_below}
-use Rattle.word_layout.specs.declared.limits.Limits.{Limits}
+use Rattle.word_layout.specs.Shape.{Shape, parts_in, group_total}
 use Rattle.word_layout.specs.Limits.{group_words_of, word_count}
-use Rattle.word_layout.specs.Addresses.{first_slot_word, first_group_word, first_row_word}
+use Rattle.word_layout.specs.Addresses.{first_epoch_word, first_slot_word, first_group_word, first_row_word}
 use Rattle.word_layout.specs.Headers.{number_of, header_word, header_words, lane_word}
 use Rattle.word_layout.specs.Headers.{most_lanes, IsHeaderWord}
 use Rattle.word_layout.specs.Places.{IsArrayPlace, part_at, part_offset}
 use Rattle.word_layout.specs.Words.{Word, FreeHead, Root, Epoch, SlotPivot, SlotGroup, Header, PlaceWord, IsWord, address_of}
 
 -- a word of the table that stands at an address
-abbrev NamedAt : Limits → ℕ → Type 0
-NamedAt l a = (w : Word) × IsWord l w × (address_of l w ≡ a)
+abbrev NamedAt : Shape → ℕ → Type 0
+NamedAt s a = (w : Word) × IsWord s w × (address_of s w ≡ a)
 
 -- ---- the heads and the epochs ----
 
-in_heads : (l : Limits) (a : ℕ) → a < first_slot_word l → NamedAt l a
-in_heads l zero h = (FreeHead, tt, refl)
-in_heads l (suc zero) h = (Root, tt, refl)
-in_heads l (suc (suc caller)) h = (Epoch caller, omega arith, omega arith)
+in_heads : (s : Shape) (a : ℕ) → a < first_epoch_word s → NamedAt s a
+in_heads s zero h = (FreeHead, tt, refl)
+in_heads s (suc part) h = (Root part, omega arith, omega arith)
 
--- ---- the root ----
+in_epochs : (s : Shape) (a : ℕ) → first_epoch_word s ≤ a → a < first_slot_word s → NamedAt s a
+in_epochs s a behind h = (Epoch (a - first_epoch_word s), omega arith, omega arith)
+
+-- ---- the roots ----
 
 -- a word of a slot, which is its first or its second
-at_slot : (l : Limits) (side i second a : ℕ) → side < 2 → i < l.slots → second < 2 →
-    first_slot_word l + (side * (2 * l.slots) + 2 * i + second) ≡ a → NamedAt l a
-at_slot l side i zero a is_side is_slot h is =
-    (SlotPivot side i, (is_side, is_slot), omega arith)
-at_slot l side i (suc zero) a is_side is_slot h is =
-    (SlotGroup side i, (is_side, is_slot), omega arith)
-at_slot l side i (suc (suc _)) a is_side is_slot h is = absurd (omega arith)
+at_slot : (s : Shape) (part side i second a : ℕ) → part < parts_in s → side < 2 → i < s.limits.slots →
+    second < 2 →
+    first_slot_word s + part * (4 * s.limits.slots) + side * (2 * s.limits.slots) + 2 * i + second ≡ a →
+    NamedAt s a
+at_slot s part side i zero a is_part is_side is_slot h is =
+    (SlotPivot part side i, (is_part, is_side, is_slot), omega arith)
+at_slot s part side i (suc zero) a is_part is_side is_slot h is =
+    (SlotGroup part side i, (is_part, is_side, is_slot), omega arith)
+at_slot s part side i (suc (suc _)) a is_part is_side is_slot h is = absurd (omega arith)
 
--- the word so far behind the start of the root
-in_root : (l : Limits) (k a : ℕ) → k < 4 * l.slots → first_slot_word l + k ≡ a → NamedAt l a
-in_root l k a h is =
-    let width : ℕ = 2 * l.slots in
+-- the word so far behind the start of a part's root
+in_root : (s : Shape) (part k a : ℕ) → part < parts_in s → k < 4 * s.limits.slots →
+    first_slot_word s + part * (4 * s.limits.slots) + k ≡ a → NamedAt s a
+in_root s part k a is_part h is =
+    let width : ℕ = 2 * s.limits.slots in
     let rest : ℕ = k % width in
     let whole : k / width * width + rest ≡ k = div-add-mod' k width in
     let below : rest < width = mod_below k width (omega arith) in
     let side : k / width < 2 = div_below k width 2 (omega arith) (omega arith) in
-    at_slot l (k / width) (rest / 2) (rest % 2) a side (omega arith) (omega arith) (omega arith)
+    at_slot s part (k / width) (rest / 2) (rest % 2) a is_part side (omega arith) (omega arith)
+    (omega arith)
+
+positive : (a b k : ℕ) → k < a * b → 0 < b
+positive a zero k h = absurd (omega arith)
+positive a (suc b) k h = omega arith
+
+-- the word so far behind the start of the roots
+in_roots : (s : Shape) (k a : ℕ) → k < parts_in s * (4 * s.limits.slots) → first_slot_word s + k ≡ a →
+    NamedAt s a
+in_roots s k a h is =
+    let width : ℕ = 4 * s.limits.slots in
+    let some : 0 < width = positive (parts_in s) width k h in
+    let rest : ℕ = k % width in
+    let whole : k / width * width + rest ≡ k = div-add-mod' k width in
+    let below : rest < width = mod_below k width some in
+    let part : k / width < parts_in s = div_below k width (parts_in s) some h in
+    in_root s (k / width) rest a part below (omega arith)
 
 -- ---- the groups ----
 
@@ -93,62 +115,68 @@ part_with (suc (suc (suc zero))) h = refl
 part_with (suc (suc (suc (suc _)))) h = absurd (omega arith)
 
 -- the word so far behind the start of a group's header
-in_header : (l : Limits) (group r a : ℕ) → group < l.groups → r < header_words →
-    first_group_word l + (group * group_words_of l + r) ≡ a → NamedAt l a
-in_header l group r a is_group h is =
+in_header : (s : Shape) (group r a : ℕ) → group < group_total s → r < header_words →
+    first_group_word s + (group * group_words_of s.limits + r) ≡ a → NamedAt s a
+in_header s group r a is_group h is =
     (Header group (header_word r), (is_group, is_header_word r h), omega (arith, header_with r h))
 
 -- the word so far behind the start of a group's array
-in_array : (l : Limits) (group r a : ℕ) → group < l.groups → r < 4 * l.group_size →
-    first_group_word l + (group * group_words_of l + header_words + r) ≡ a → NamedAt l a
-in_array l group r a is_group h is =
+in_array : (s : Shape) (group r a : ℕ) → group < group_total s → r < 4 * s.limits.group_size →
+    first_group_word s + (group * group_words_of s.limits + header_words + r) ≡ a → NamedAt s a
+in_array s group r a is_group h is =
     let offset = part_with (r % 4) (omega arith) in
-    let place : ℕ = first_group_word l + group * group_words_of l + header_words + 4 * (r / 4) in
-    let array : IsArrayPlace l group place = (omega arith, omega arith, omega arith) in
+    let place : ℕ = first_group_word s + group * group_words_of s.limits + header_words + 4 * (r / 4) in
+    let array : IsArrayPlace s group place = (omega arith, omega arith, omega arith) in
     (PlaceWord place (part_at (r % 4)), inr (group, is_group, array), omega arith)
 
 -- the word so far behind the start of the groups
-in_groups : (l : Limits) (k a : ℕ) → k < l.groups * group_words_of l →
-    first_group_word l + k ≡ a → NamedAt l a
-in_groups l k a h is =
-    let width : ℕ = group_words_of l in
+in_groups : (s : Shape) (k a : ℕ) → k < group_total s * group_words_of s.limits →
+    first_group_word s + k ≡ a → NamedAt s a
+in_groups s k a h is =
+    let width : ℕ = group_words_of s.limits in
     let rest : ℕ = k % width in
     let whole : k / width * width + rest ≡ k = div-add-mod' k width in
     let below : rest < width = mod_below k width (omega arith) in
-    let group : k / width < l.groups = div_below k width l.groups (omega arith) h in
-    ⊎_elim (λ header. in_header l (k / width) rest a group header (omega arith))
-    (λ array. in_array l (k / width) (rest - header_words) a group (omega arith) (omega arith))
+    let group : k / width < group_total s = div_below k width (group_total s) (omega arith) h in
+    ⊎_elim (λ header. in_header s (k / width) rest a group header (omega arith))
+    (λ array. in_array s (k / width) (rest - header_words) a group (omega arith) (omega arith))
     (cases_lt rest header_words)
 
 -- ---- the record rows ----
 
 -- the word so far behind the start of the record rows
-in_rows : (l : Limits) (k a : ℕ) → k < 4 * l.records → first_row_word l + k ≡ a → NamedAt l a
-in_rows l k a h is =
+in_rows : (s : Shape) (k a : ℕ) → k < 4 * s.limits.records → first_row_word s + k ≡ a → NamedAt s a
+in_rows s k a h is =
     let offset = part_with (k % 4) (omega arith) in
-    let place : ℕ = first_row_word l + 4 * (k / 4) in
+    let place : ℕ = first_row_word s + 4 * (k / 4) in
     (PlaceWord place (part_at (k % 4)), inl (omega arith, omega arith, omega arith), omega arith)
 
 -- ---- the whole table ----
 
-behind_root : (l : Limits) (a : ℕ) → first_group_word l ≤ a → a < word_count l → NamedAt l a
-behind_root l a behind h =
-    let groups : ℕ = first_group_word l in
-    let rows : ℕ = first_row_word l in
-    ⊎_elim (λ before_rows. in_groups l (a - groups) a (omega arith) (omega arith))
-    (λ in_last. in_rows l (a - rows) a (omega arith) (omega arith))
+behind_root : (s : Shape) (a : ℕ) → first_group_word s ≤ a → a < word_count s → NamedAt s a
+behind_root s a behind h =
+    let groups : ℕ = first_group_word s in
+    let rows : ℕ = first_row_word s in
+    ⊎_elim (λ before_rows. in_groups s (a - groups) a (omega arith) (omega arith))
+    (λ in_last. in_rows s (a - rows) a (omega arith) (omega arith))
     (cases_lt a rows)
 
-behind_heads : (l : Limits) (a : ℕ) → first_slot_word l ≤ a → a < word_count l → NamedAt l a
-behind_heads l a behind h =
-    let slots : ℕ = first_slot_word l in
-    ⊎_elim (λ before_groups. in_root l (a - slots) a (omega arith) (omega arith))
-    (λ further. behind_root l a further h)
-    (cases_lt a (first_group_word l))
+behind_heads : (s : Shape) (a : ℕ) → first_slot_word s ≤ a → a < word_count s → NamedAt s a
+behind_heads s a behind h =
+    let slots : ℕ = first_slot_word s in
+    ⊎_elim (λ before_groups. in_roots s (a - slots) a (omega arith) (omega arith))
+    (λ further. behind_root s a further h)
+    (cases_lt a (first_group_word s))
+
+behind_free : (s : Shape) (a : ℕ) → first_epoch_word s ≤ a → a < word_count s → NamedAt s a
+behind_free s a behind h =
+    ⊎_elim (λ before_slots. in_epochs s a behind before_slots)
+    (λ further. behind_heads s a further h)
+    (cases_lt a (first_slot_word s))
 
 -- each address of the table is that of a word
-pub named_address : (l : Limits) (a : ℕ) → a < word_count l → NamedAt l a
-named_address l a h =
-    ⊎_elim (λ before_slots. in_heads l a before_slots)
-    (λ further. behind_heads l a further h)
-    (cases_lt a (first_slot_word l))
+pub named_address : (s : Shape) (a : ℕ) → a < word_count s → NamedAt s a
+named_address s a h =
+    ⊎_elim (λ before_epochs. in_heads s a before_epochs)
+    (λ further. behind_free s a further h)
+    (cases_lt a (first_epoch_word s))

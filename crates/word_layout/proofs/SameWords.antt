@@ -1,5 +1,5 @@
 -- When two names are of one word.
-use Rattle.std.proofs.Common.{◌≡◌, Bool, true, false, ◌&&◌, refl, sym, ap, ◌∙◌, eq-eqb}
+use Rattle.std.proofs.Common.{◌≡◌, ℕ, Bool, true, false, ◌&&◌, refl, sym, ap, ◌∙◌, eq-eqb}
 use Rattle.std.specs.Prelude.{◌==◌}
 use Rattle.std.proofs.lemmas.Bool.{eqb-true}
 use Rattle.word_layout.specs.declared.headers.HeaderWord.{HeaderWord}
@@ -27,13 +27,18 @@ same_header_word-refl SecondSpare = refl
 same_header_word-refl (Head lane) = eq-eqb lane lane refl
 same_header_word-refl (Cut lane) = eq-eqb lane lane refl
 
+same_slot_word-refl : (p s i : ℕ) → ((p == p) && ((s == s) && (i == i))) ≡ true
+same_slot_word-refl p s i =
+    both (p == p) ((s == s) && (i == i)) (eq-eqb p p refl)
+    (both (s == s) (i == i) (eq-eqb s s refl) (eq-eqb i i refl))
+
 -- a word is itself
 pub same_word-refl : (w : Word) → same_word w w ≡ true
 same_word-refl FreeHead = refl
-same_word-refl Root = refl
+same_word-refl (Root p) = eq-eqb p p refl
 same_word-refl (Epoch c) = eq-eqb c c refl
-same_word-refl (SlotPivot s i) = both (s == s) (i == i) (eq-eqb s s refl) (eq-eqb i i refl)
-same_word-refl (SlotGroup s i) = both (s == s) (i == i) (eq-eqb s s refl) (eq-eqb i i refl)
+same_word-refl (SlotPivot p s i) = same_slot_word-refl p s i
+same_word-refl (SlotGroup p s i) = same_slot_word-refl p s i
 same_word-refl (Header g h) =
     both (g == g) (same_header_word h h) (eq-eqb g g refl) (same_header_word-refl h)
 same_word-refl (PlaceWord p a) =
@@ -62,17 +67,21 @@ part_of_offset a b e = sym (part_at-part_offset a) ∙ ap part_at e ∙ part_at-
 -- where the test passes, the two names are one
 pub same_word-true : (w v : Word) → same_word w v ≡ true → w ≡ v
 same_word-true FreeHead FreeHead h = refl
-same_word-true Root Root h = refl
+same_word-true (Root p) (Root q) h = ap Root (eqb-true p q h)
 same_word-true (Epoch c) (Epoch d) h = ap Epoch (eqb-true c d h)
-same_word-true (SlotPivot s i) (SlotPivot r j) h =
-    let parts = and-true (s == r) (i == j) h in
-    let side = eqb-true s r parts.0 in
-    let slot = eqb-true i j parts.1 in
+same_word-true (SlotPivot p s i) (SlotPivot q r j) h =
+    let parts = and-true (p == q) ((s == r) && (i == j)) h in
+    let part = eqb-true p q parts.0 in
+    let slots = and-true (s == r) (i == j) parts.1 in
+    let side = eqb-true s r slots.0 in
+    let slot = eqb-true i j slots.1 in
     cc
-same_word-true (SlotGroup s i) (SlotGroup r j) h =
-    let parts = and-true (s == r) (i == j) h in
-    let side = eqb-true s r parts.0 in
-    let slot = eqb-true i j parts.1 in
+same_word-true (SlotGroup p s i) (SlotGroup q r j) h =
+    let parts = and-true (p == q) ((s == r) && (i == j)) h in
+    let part = eqb-true p q parts.0 in
+    let slots = and-true (s == r) (i == j) parts.1 in
+    let side = eqb-true s r slots.0 in
+    let slot = eqb-true i j slots.1 in
     cc
 same_word-true (Header g h) (Header f k) e =
     let parts = and-true (g == f) (same_header_word h k) e in

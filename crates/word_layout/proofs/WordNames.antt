@@ -3,9 +3,9 @@ use Rattle.std.proofs.Common.{◌≡◌, ◌∙◌, ⊎_elim, ℕ, ◌+◌, ◌-
 use Rattle.std.specs.Prelude.{nat_lt, if◌then◌else◌}
 use Rattle.std.proofs.lemmas.Bool.{lt-ltb, le-ltb}
 use Rattle.std.proofs.lemmas.Nat.{div-mul-add, mod-mul-add, mul-add-lt}
-use Rattle.word_layout.specs.declared.limits.Limits.{Limits}
+use Rattle.word_layout.specs.Shape.{Shape, parts_in, group_total}
 use Rattle.word_layout.specs.Limits.{group_words_of, word_count}
-use Rattle.word_layout.specs.Addresses.{first_slot_word, first_group_word, first_row_word}
+use Rattle.word_layout.specs.Addresses.{first_epoch_word, first_slot_word, first_group_word, first_row_word}
 use Rattle.word_layout.specs.declared.headers.HeaderWord.{HeaderWord}
 use Rattle.word_layout.specs.declared.headers.HeaderWord.TheVariants.{Pivot, Size, LineError, Lanes, Phase, Next, FirstSpare, SecondSpare, Head, Cut}
 use Rattle.word_layout.specs.declared.places.Part.{Part}
@@ -13,7 +13,7 @@ use Rattle.word_layout.specs.declared.places.Part.TheVariants.{Key, Value, State
 use Rattle.word_layout.specs.Addresses.{array_address}
 use Rattle.word_layout.specs.Headers.{number_of, header_word, header_words, most_lanes, IsHeaderWord}
 use Rattle.word_layout.specs.Places.{IsArrayPlace, IsRow, IsWordOf, part_at, part_of, part_offset, part_address}
-use Rattle.word_layout.specs.WordAt.{head_at, slot_at, group_at, row_at, word_at}
+use Rattle.word_layout.specs.WordAt.{head_at, slot_at, root_at, group_at, row_at, word_at}
 use Rattle.word_layout.specs.Words.{Word, FreeHead, Root, Epoch, SlotPivot, SlotGroup, Header, PlaceWord, IsWord, address_of, StandApart, StoresByName}
 use Rattle.word_layout.proofs.NamedAddresses.{named_address}
 
@@ -26,37 +26,49 @@ first_of_two A a b x y h = rw (lt-ltb a b h)
 second_of_two : (A : Type 0) (a b : ℕ) (x y : A) → b ≤ a → (if nat_lt a b then x else y) ≡ y
 second_of_two A a b x y h = rw (le-ltb a b h)
 
-in_heads : (l : Limits) (a : ℕ) → a < first_slot_word l → word_at l a ≡ head_at a
+in_heads : (s : Shape) (a : ℕ) → a < first_epoch_word s → word_at s a ≡ head_at a
 unfolding word_at
-in_heads l a h = first_of_two Word a (first_slot_word l) _ _ h
+in_heads s a h = first_of_two Word a (first_epoch_word s) _ _ h
 
-in_slots : (l : Limits) (k : ℕ) → k < 4 * l.slots →
-    word_at l (first_slot_word l + k) ≡ slot_at (2 * l.slots) k
+in_epochs : (s : Shape) (caller : ℕ) → caller < s.limits.callers →
+    word_at s (first_epoch_word s + caller) ≡ Epoch caller
 unfolding word_at
-in_slots l k h =
-    let same : first_slot_word l + k - first_slot_word l ≡ k = omega arith in
-    second_of_two Word (first_slot_word l + k) (first_slot_word l) _ _ (omega arith)
-    ∙ first_of_two Word (first_slot_word l + k) (first_group_word l) _ _ (omega arith)
-    ∙ ap (slot_at (2 * l.slots)) same
+in_epochs s caller h =
+    let same : first_epoch_word s + caller - first_epoch_word s ≡ caller = omega arith in
+    second_of_two Word (first_epoch_word s + caller) (first_epoch_word s) _ _ (omega arith)
+    ∙ first_of_two Word (first_epoch_word s + caller) (first_slot_word s) _ _ (omega arith)
+    ∙ ap Epoch same
 
-in_groups : (l : Limits) (k : ℕ) → k < l.groups * group_words_of l →
-    word_at l (first_group_word l + k) ≡ group_at (first_group_word l) (group_words_of l) k
+in_slots : (s : Shape) (k : ℕ) → k < parts_in s * (4 * s.limits.slots) →
+    word_at s (first_slot_word s + k) ≡ root_at (2 * s.limits.slots) k
 unfolding word_at
-in_groups l k h =
-    let same : first_group_word l + k - first_group_word l ≡ k = omega arith in
-    second_of_two Word (first_group_word l + k) (first_slot_word l) _ _ (omega arith)
-    ∙ second_of_two Word (first_group_word l + k) (first_group_word l) _ _ (omega arith)
-    ∙ first_of_two Word (first_group_word l + k) (first_row_word l) _ _ (omega arith)
-    ∙ ap (group_at (first_group_word l) (group_words_of l)) same
+in_slots s k h =
+    let same : first_slot_word s + k - first_slot_word s ≡ k = omega arith in
+    second_of_two Word (first_slot_word s + k) (first_epoch_word s) _ _ (omega arith)
+    ∙ second_of_two Word (first_slot_word s + k) (first_slot_word s) _ _ (omega arith)
+    ∙ first_of_two Word (first_slot_word s + k) (first_group_word s) _ _ (omega arith)
+    ∙ ap (root_at (2 * s.limits.slots)) same
 
-in_rows : (l : Limits) (k : ℕ) → word_at l (first_row_word l + k) ≡ row_at (first_row_word l) k
+in_groups : (s : Shape) (k : ℕ) → k < group_total s * group_words_of s.limits →
+    word_at s (first_group_word s + k) ≡ group_at (first_group_word s) (group_words_of s.limits) k
 unfolding word_at
-in_rows l k =
-    let same : first_row_word l + k - first_row_word l ≡ k = omega arith in
-    second_of_two Word (first_row_word l + k) (first_slot_word l) _ _ (omega arith)
-    ∙ second_of_two Word (first_row_word l + k) (first_group_word l) _ _ (omega arith)
-    ∙ second_of_two Word (first_row_word l + k) (first_row_word l) _ _ (omega arith)
-    ∙ ap (row_at (first_row_word l)) same
+in_groups s k h =
+    let same : first_group_word s + k - first_group_word s ≡ k = omega arith in
+    second_of_two Word (first_group_word s + k) (first_epoch_word s) _ _ (omega arith)
+    ∙ second_of_two Word (first_group_word s + k) (first_slot_word s) _ _ (omega arith)
+    ∙ second_of_two Word (first_group_word s + k) (first_group_word s) _ _ (omega arith)
+    ∙ first_of_two Word (first_group_word s + k) (first_row_word s) _ _ (omega arith)
+    ∙ ap (group_at (first_group_word s) (group_words_of s.limits)) same
+
+in_rows : (s : Shape) (k : ℕ) → word_at s (first_row_word s + k) ≡ row_at (first_row_word s) k
+unfolding word_at
+in_rows s k =
+    let same : first_row_word s + k - first_row_word s ≡ k = omega arith in
+    second_of_two Word (first_row_word s + k) (first_epoch_word s) _ _ (omega arith)
+    ∙ second_of_two Word (first_row_word s + k) (first_slot_word s) _ _ (omega arith)
+    ∙ second_of_two Word (first_row_word s + k) (first_group_word s) _ _ (omega arith)
+    ∙ second_of_two Word (first_row_word s + k) (first_row_word s) _ _ (omega arith)
+    ∙ ap (row_at (first_row_word s)) same
 
 -- ---- each part by its quotient and remainder ----
 
@@ -84,23 +96,30 @@ part_address-part_of place address within =
     by_offset (suc (suc zero)) e = omega arith
     by_offset (suc (suc (suc k))) e = let high = within.1 in omega arith
 
-slot_at-pivot : (width side i : ℕ) → 2 * i < width →
-    slot_at width (side * width + 2 * i) ≡ SlotPivot side i
-slot_at-pivot width side i h =
+slot_at-pivot : (part width side i : ℕ) → 2 * i < width →
+    slot_at part width (side * width + 2 * i) ≡ SlotPivot part side i
+slot_at-pivot part width side i h =
     let quotient = div-mul-add side width (2 * i) h in
     let rest = mod-mul-add side width (2 * i) h in
     let slot : 2 * i / 2 ≡ i = omega arith in
     let word : 2 * i % 2 ≡ 0 = omega arith in
     rw (quotient, rest, slot, word)
 
-slot_at-group : (width side i : ℕ) → 2 * i + 1 < width →
-    slot_at width (side * width + (2 * i + 1)) ≡ SlotGroup side i
-slot_at-group width side i h =
+slot_at-group : (part width side i : ℕ) → 2 * i + 1 < width →
+    slot_at part width (side * width + (2 * i + 1)) ≡ SlotGroup part side i
+slot_at-group part width side i h =
     let quotient = div-mul-add side width (2 * i + 1) h in
     let rest = mod-mul-add side width (2 * i + 1) h in
     let slot : (2 * i + 1) / 2 ≡ i = omega arith in
     let word : (2 * i + 1) % 2 ≡ 1 = omega arith in
     rw (quotient, rest, slot, word)
+
+root_at-slot : (width part k : ℕ) → k < 2 * width →
+    root_at width (part * (2 * width) + k) ≡ slot_at part width k
+root_at-slot width part k h =
+    let quotient = div-mul-add part (2 * width) k h in
+    let rest = mod-mul-add part (2 * width) k h in
+    rw (quotient, rest)
 
 head_at_number : (lane : ℕ) → lane < most_lanes → header_word (8 + lane) ≡ Head lane
 head_at_number lane h =
@@ -189,140 +208,160 @@ group_at-array start width group k part whole h =
 -- ---- the laws ----
 
 -- the part of a row, and of a place of an array
-at_row : (l : Limits) (place : ℕ) (part : Part) → IsRow l place →
-    word_at l (place + part_offset part) ≡ PlaceWord place part
-at_row l place part row =
-    let k = place - first_row_word l in
-    let same : place + part_offset part ≡ first_row_word l + (k + part_offset part) =
+at_row : (s : Shape) (place : ℕ) (part : Part) → IsRow s place →
+    word_at s (place + part_offset part) ≡ PlaceWord place part
+at_row s place part row =
+    let k = place - first_row_word s in
+    let same : place + part_offset part ≡ first_row_word s + (k + part_offset part) =
     omega (arith, row.0)
     in
-    let back : first_row_word l + k ≡ place = omega (arith, row.0) in
-    ap (word_at l) same
-    ∙ in_rows l (k + part_offset part)
-    ∙ place_part (first_row_word l) k part row.2
+    let back : first_row_word s + k ≡ place = omega (arith, row.0) in
+    ap (word_at s) same
+    ∙ in_rows s (k + part_offset part)
+    ∙ place_part (first_row_word s) k part row.2
     ∙ ap (λ (p : ℕ). PlaceWord p part) back
 
-pub array_inside : (l : Limits) (group place offset : ℕ) → group < l.groups →
-    IsArrayPlace l group place → offset < 4 →
-    let k = place - array_address l group 0 in
-    (header_words + (k + offset) < group_words_of l)
-    × (group * group_words_of l + (header_words + (k + offset)) < l.groups * group_words_of l)
-    × (place ≡ first_group_word l + group * group_words_of l + (header_words + k))
-array_inside l group place offset known array below =
-    let k = place - array_address l group 0 in
+pub array_inside : (s : Shape) (group place offset : ℕ) → group < group_total s →
+    IsArrayPlace s group place → offset < 4 →
+    let k = place - array_address s group 0 in
+    (header_words + (k + offset) < group_words_of s.limits)
+    × (group * group_words_of s.limits + (header_words + (k + offset)) < group_total s * group_words_of s.limits)
+    × (place ≡ first_group_word s + group * group_words_of s.limits + (header_words + k))
+array_inside s group place offset known array below =
+    let k = place - array_address s group 0 in
     let low = array.0 in
     let high = array.1 in
     let whole = array.2 in
-    let fits : header_words + (k + offset) < group_words_of l = omega arith in (
+    let fits : header_words + (k + offset) < group_words_of s.limits = omega arith in (
       fits,
-      omega (arith, mul-add-lt group (group_words_of l) (header_words + (k + offset)) l.groups known fits),
+      omega (arith, mul-add-lt group (group_words_of s.limits) (header_words + (k + offset)) (group_total s) known fits),
       omega arith,
     )
 
-at_array : (l : Limits) (group place : ℕ) (part : Part) → group < l.groups →
-    IsArrayPlace l group place → word_at l (place + part_offset part) ≡ PlaceWord place part
-at_array l group place part known array =
-    let width = group_words_of l in
-    let k = place - array_address l group 0 in
+at_array : (s : Shape) (group place : ℕ) (part : Part) → group < group_total s →
+    IsArrayPlace s group place → word_at s (place + part_offset part) ≡ PlaceWord place part
+at_array s group place part known array =
+    let width = group_words_of s.limits in
+    let k = place - array_address s group 0 in
     let offset = part_offset part in
-    let inside = array_inside l group place offset known array (part_offset-below part) in
+    let inside = array_inside s group place offset known array (part_offset-below part) in
     let behind : ℕ = group * width + (header_words + (k + part_offset part)) in
     let is = inside.2 in
-    let same : place + part_offset part ≡ first_group_word l + behind = omega arith in
-    ap (word_at l) same
-    ∙ in_groups l behind inside.1
-    ∙ group_at-array (first_group_word l) width group k part array.2 inside.0
+    let same : place + part_offset part ≡ first_group_word s + behind = omega arith in
+    ap (word_at s) same
+    ∙ in_groups s behind inside.1
+    ∙ group_at-array (first_group_word s) width group k part array.2 inside.0
     ∙ ap (λ (p : ℕ). PlaceWord p part) (sym is)
 
+-- a word of a slot stands inside of its part's root, and that among the roots
+slot_inside : (width side k : ℕ) → side < 2 → k < width → side * width + k < 2 * width
+slot_inside width side k is_side fits = omega (arith, mul-add-lt side width k 2 is_side fits)
+
 -- the word that stands at a word's address is that word
-pub word_at-address_of : (l : Limits) (w : Word) → IsWord l w → word_at l (address_of l w) ≡ w
-word_at-address_of l FreeHead h = in_heads l 0 (omega arith)
-word_at-address_of l Root h = in_heads l 1 (omega arith)
-word_at-address_of l (Epoch caller) h =
-    let same : 2 + caller ≡ suc (suc caller) = omega arith in
-    ap (word_at l) same ∙ in_heads l (suc (suc caller)) (omega arith)
-word_at-address_of l (SlotPivot side i) h =
-    let same : address_of l (SlotPivot side i)
-    ≡ first_slot_word l + (side * (2 * l.slots) + 2 * i) = omega arith
+pub word_at-address_of : (s : Shape) (w : Word) → IsWord s w → word_at s (address_of s w) ≡ w
+word_at-address_of s FreeHead h = in_heads s 0 (omega arith)
+word_at-address_of s (Root part) h =
+    let same : 1 + part ≡ suc part = omega arith in
+    ap (word_at s) same ∙ in_heads s (suc part) (omega arith)
+word_at-address_of s (Epoch caller) h = in_epochs s caller h
+word_at-address_of s (SlotPivot part side i) h =
+    let width : ℕ = 2 * s.limits.slots in
+    let fits : 2 * i < width = let below = h.2 in omega arith in
+    let inside : side * width + 2 * i < 2 * width = slot_inside width side (2 * i) h.1 fits in
+    let whole = mul-add-lt part (2 * width) (side * width + 2 * i) (parts_in s) h.0 inside in
+    let same : address_of s (SlotPivot part side i)
+    ≡ first_slot_word s + (part * (2 * width) + (side * width + 2 * i)) = omega arith
     in
-    let fits : 2 * i < 2 * l.slots = omega arith in
-    let inside = mul-add-lt side (2 * l.slots) (2 * i) 2 h.0 fits in
-    ap (word_at l) same
-    ∙ in_slots l (side * (2 * l.slots) + 2 * i) (omega (arith, inside))
-    ∙ slot_at-pivot (2 * l.slots) side i fits
-word_at-address_of l (SlotGroup side i) h =
-    let same : address_of l (SlotGroup side i)
-    ≡ first_slot_word l + (side * (2 * l.slots) + (2 * i + 1)) = omega arith
+    ap (word_at s) same
+    ∙ in_slots s (part * (2 * width) + (side * width + 2 * i)) (omega (arith, whole))
+    ∙ root_at-slot width part (side * width + 2 * i) inside
+    ∙ slot_at-pivot part width side i fits
+word_at-address_of s (SlotGroup part side i) h =
+    let width : ℕ = 2 * s.limits.slots in
+    let fits : 2 * i + 1 < width = let below = h.2 in omega arith in
+    let inside : side * width + (2 * i + 1) < 2 * width =
+    slot_inside width side (2 * i + 1) h.1 fits
     in
-    let fits : 2 * i + 1 < 2 * l.slots = omega arith in
-    let inside = mul-add-lt side (2 * l.slots) (2 * i + 1) 2 h.0 fits in
-    ap (word_at l) same
-    ∙ in_slots l (side * (2 * l.slots) + (2 * i + 1)) (omega (arith, inside))
-    ∙ slot_at-group (2 * l.slots) side i fits
-word_at-address_of l (Header group word) h =
-    let width = group_words_of l in
+    let whole = mul-add-lt part (2 * width) (side * width + (2 * i + 1)) (parts_in s) h.0 inside in
+    let same : address_of s (SlotGroup part side i)
+    ≡ first_slot_word s + (part * (2 * width) + (side * width + (2 * i + 1))) = omega arith
+    in
+    ap (word_at s) same
+    ∙ in_slots s (part * (2 * width) + (side * width + (2 * i + 1))) (omega (arith, whole))
+    ∙ root_at-slot width part (side * width + (2 * i + 1)) inside
+    ∙ slot_at-group part width side i fits
+word_at-address_of s (Header group word) h =
+    let width = group_words_of s.limits in
     let i = number_of word in
-    let same : address_of l (Header group word) ≡ first_group_word l + (group * width + i) =
+    let same : address_of s (Header group word) ≡ first_group_word s + (group * width + i) =
     omega arith
     in
     let fits : i < width = omega (arith, number_of-below word h.1) in
-    let inside = mul-add-lt group width i l.groups h.0 fits in
-    ap (word_at l) same
-    ∙ in_groups l (group * width + i) (omega (arith, inside))
-    ∙ group_at-header (first_group_word l) width group word h.1 fits
-word_at-address_of l (PlaceWord place part) h =
-    ⊎_elim (λ row. at_row l place part row)
-    (λ array. at_array l array.0 place part array.1 array.2)
+    let inside = mul-add-lt group width i (group_total s) h.0 fits in
+    ap (word_at s) same
+    ∙ in_groups s (group * width + i) (omega (arith, inside))
+    ∙ group_at-header (first_group_word s) width group word h.1 fits
+word_at-address_of s (PlaceWord place part) h =
+    ⊎_elim (λ row. at_row s place part row)
+    (λ array. at_array s array.0 place part array.1 array.2)
     h
 
-row_within : (l : Limits) (place offset : ℕ) → IsRow l place → offset < 4 →
-    place + offset < word_count l
-row_within l place offset row below =
+row_within : (s : Shape) (place offset : ℕ) → IsRow s place → offset < 4 →
+    place + offset < word_count s
+row_within s place offset row below =
     let low = row.0 in let high = row.1 in let whole = row.2 in omega arith
 
 -- each word stands in the table
-pub address_of-within : (l : Limits) (w : Word) → IsWord l w → address_of l w < word_count l
-address_of-within l FreeHead h = omega arith
-address_of-within l Root h = omega arith
-address_of-within l (Epoch caller) h = omega arith
-address_of-within l (SlotPivot side i) h =
-    omega (arith, mul-add-lt side (2 * l.slots) (2 * i) 2 h.0 (omega arith))
-address_of-within l (SlotGroup side i) h =
-    omega (arith, mul-add-lt side (2 * l.slots) (2 * i + 1) 2 h.0 (omega arith))
-address_of-within l (Header group word) h =
+pub address_of-within : (s : Shape) (w : Word) → IsWord s w → address_of s w < word_count s
+address_of-within s FreeHead h = omega arith
+address_of-within s (Root part) h = omega arith
+address_of-within s (Epoch caller) h = omega arith
+address_of-within s (SlotPivot part side i) h =
+    let width : ℕ = 2 * s.limits.slots in
+    let fits : 2 * i < width = let below = h.2 in omega arith in
+    let inside : side * width + 2 * i < 2 * width = slot_inside width side (2 * i) h.1 fits in
+    omega (arith, mul-add-lt part (2 * width) (side * width + 2 * i) (parts_in s) h.0 inside)
+address_of-within s (SlotGroup part side i) h =
+    let width : ℕ = 2 * s.limits.slots in
+    let fits : 2 * i + 1 < width = let below = h.2 in omega arith in
+    let inside : side * width + (2 * i + 1) < 2 * width =
+    slot_inside width side (2 * i + 1) h.1 fits
+    in
+    omega (arith, mul-add-lt part (2 * width) (side * width + (2 * i + 1)) (parts_in s) h.0 inside)
+address_of-within s (Header group word) h =
     let i = number_of word in
-    let fits : i < group_words_of l = omega (arith, number_of-below word h.1) in
-    omega (arith, mul-add-lt group (group_words_of l) i l.groups h.0 fits)
-address_of-within l (PlaceWord place part) h =
+    let fits : i < group_words_of s.limits = omega (arith, number_of-below word h.1) in
+    omega (arith, mul-add-lt group (group_words_of s.limits) i (group_total s) h.0 fits)
+address_of-within s (PlaceWord place part) h =
     let below = part_offset-below part in
-    ⊎_elim (λ row. row_within l place (part_offset part) row below)
-    (λ array. let inside = array_inside l array.0 place (part_offset part) array.1 array.2 below in
+    ⊎_elim (λ row. row_within s place (part_offset part) row below)
+    (λ array. let inside = array_inside s array.0 place (part_offset part) array.1 array.2 below in
     let bound = inside.1 in let is = inside.2 in omega arith)
     h
 
 -- two words with one address are one word, since the address names it
-address_of-apart : (l : Limits) (w v : Word) → IsWord l w → IsWord l v →
-    address_of l w ≡ address_of l v → w ≡ v
-address_of-apart l w v known_w known_v same =
-    sym (word_at-address_of l w known_w) ∙ ap (word_at l) same ∙ word_at-address_of l v known_v
+address_of-apart : (s : Shape) (w v : Word) → IsWord s w → IsWord s v →
+    address_of s w ≡ address_of s v → w ≡ v
+address_of-apart s w v known_w known_v same =
+    sym (word_at-address_of s w known_w) ∙ ap (word_at s) same ∙ word_at-address_of s v known_v
 
-pub stand_apart : (l : Limits) → StandApart l
-stand_apart l =
+pub stand_apart : (s : Shape) → StandApart s
+stand_apart s =
     record {
-      within = address_of-within l;
-      apart = address_of-apart l;
-      named = named_address l;
+      within = address_of-within s;
+      apart = address_of-apart s;
+      named = named_address s;
     }
 
-pub stores_by_name : (l : Limits) → StoresByName l
-stores_by_name l =
+pub stores_by_name : (s : Shape) → StoresByName s
+stores_by_name s =
     record {
       stored = λ words w value whole known.
-          let inside : address_of l w < length words =
-          omega (arith, whole, address_of-within l w known)
+          let inside : address_of s w < length words =
+          omega (arith, whole, address_of-within s w known)
           in
-          get_or-set_same words (address_of l w) value 0 inside;
+          get_or-set_same words (address_of s w) value 0 inside;
       kept = λ words w v value known_w known_v other.
-          get_or-set_other words (address_of l w) (address_of l v) value 0
-          (λ same. other (address_of-apart l w v known_w known_v (sym same)));
+          get_or-set_other words (address_of s w) (address_of s v) value 0
+          (λ same. other (address_of-apart s w v known_w known_v (sym same)));
     }

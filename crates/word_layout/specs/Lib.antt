@@ -1,7 +1,8 @@
 pub mod Headers
-pub mod Limits
 pub mod Parts
 pub mod BoundArrays
+pub mod Shape
+pub mod Limits
 pub mod Addresses
 pub mod Layout
 pub mod Places

@@ -1,10 +1,10 @@
 -- The record places, in arrays and in record rows, and the four words of each.
 use Rattle.std.specs.Prelude.{◌≡◌, ◌⊎◌, ℕ, zero, suc, ◌+◌, ◌-◌, ◌%◌, ◌<◌, ◌≤◌, Bool, ◌==◌, ◌&&◌, nat_le, nat_lt, if◌then◌else◌, List, [], ◌∷◌}
-use Rattle.word_layout.specs.declared.limits.Limits.{Limits}
 use Rattle.word_layout.specs.declared.places.Part.{Part}
 use Rattle.word_layout.specs.declared.places.Part.TheVariants.{Key, Value, State, Link}
 use Rattle.word_layout.specs.Limits.{word_count}
 use Rattle.word_layout.specs.Addresses.{first_row_word, array_address, row_address}
+use Rattle.word_layout.specs.Shape.{Shape, group_total}
 
 -- ---- the parts of a place ----
 
@@ -41,35 +41,35 @@ part_of place address = part_at (address - place)
 -- ---- which numbers are places ----
 
 -- a place of a group's array
-abbrev pub IsArrayPlace : Limits → ℕ → ℕ → Type 0
-IsArrayPlace l group place =
-    (array_address l group 0 ≤ place) × (place < array_address l group l.group_size)
-    × ((place - array_address l group 0) % 4 ≡ 0)
+abbrev pub IsArrayPlace : Shape → ℕ → ℕ → Type 0
+IsArrayPlace s group place =
+    (array_address s group 0 ≤ place) × (place < array_address s group s.limits.group_size)
+    × ((place - array_address s group 0) % 4 ≡ 0)
 
 -- the place of a record row
-abbrev pub IsRow : Limits → ℕ → Type 0
-IsRow l place =
-    (first_row_word l ≤ place) × (place < word_count l) × ((place - first_row_word l) % 4 ≡ 0)
+abbrev pub IsRow : Shape → ℕ → Type 0
+IsRow s place =
+    (first_row_word s ≤ place) × (place < word_count s) × ((place - first_row_word s) % 4 ≡ 0)
 
 -- a place of the table: of a record row, or of the array of one of its groups
-abbrev pub IsPlace : Limits → ℕ → Type 0
-IsPlace l place =
-    IsRow l place ⊎ ((group : ℕ) × (group < l.groups) × IsArrayPlace l group place)
+abbrev pub IsPlace : Shape → ℕ → Type 0
+IsPlace s place =
+    IsRow s place ⊎ ((group : ℕ) × (group < group_total s) × IsArrayPlace s group place)
 
 -- a word that a place may have as this part: a link names a record row, or none
-abbrev pub FitsPart : Limits → Part → ℕ → Type 0
-FitsPart l Link value = (value ≡ 0) ⊎ IsRow l value
-FitsPart l _ value = Unit {0}
+abbrev pub FitsPart : Shape → Part → ℕ → Type 0
+FitsPart s Link value = (value ≡ 0) ⊎ IsRow s value
+FitsPart s _ value = Unit {0}
 
 -- ---- the record rows in their order ----
 
 -- the place behind a row's, or 0 behind the last row and for what stands before the rows
-abbrev pub next_row : Limits → ℕ → ℕ
-next_row l place =
-    if nat_le (first_row_word l) place && nat_lt (place + 4) (word_count l)
+abbrev pub next_row : Shape → ℕ → ℕ
+next_row s place =
+    if nat_le (first_row_word s) place && nat_lt (place + 4) (word_count s)
     then place + 4 else 0
 
 -- the places of so many rows, from row i on
-abbrev pub rows_from : Limits → ℕ → ℕ → List ℕ
-rows_from l i zero = []
-rows_from l i (suc n) = row_address l i ∷ rows_from l (i + 1) n
+abbrev pub rows_from : Shape → ℕ → ℕ → List ℕ
+rows_from s i zero = []
+rows_from s i (suc n) = row_address s i ∷ rows_from s (i + 1) n

@@ -1,26 +1,29 @@
 -- The name of the word at an address.
 use Rattle.std.specs.Prelude.{ℕ, zero, suc, ◌+◌, ◌-◌, ◌*◌, ◌/◌, ◌%◌, nat_lt, if◌then◌else◌}
-use Rattle.word_layout.specs.declared.limits.Limits.{Limits}
 use Rattle.word_layout.specs.Limits.{group_words_of}
-use Rattle.word_layout.specs.Addresses.{first_slot_word, first_group_word, first_row_word}
+use Rattle.word_layout.specs.Addresses.{first_epoch_word, first_slot_word, first_group_word, first_row_word}
+use Rattle.word_layout.specs.Shape.{Shape}
 use Rattle.word_layout.specs.Headers.{header_word, header_words}
 use Rattle.word_layout.specs.Places.{part_at}
 use Rattle.word_layout.specs.Words.{Word, FreeHead, Root, Epoch, SlotPivot, SlotGroup, Header, PlaceWord}
 
--- the word so far behind the start of the table, before the root
+-- the word before the epochs: the free head, and behind it a root word
 abbrev pub head_at : ℕ → Word
 head_at zero = FreeHead
-head_at (suc zero) = Root
-head_at (suc (suc caller)) = Epoch caller
+head_at (suc part) = Root part
 
 -- the first or the second word of a slot
-abbrev pub slot_word : ℕ → ℕ → ℕ → Word
-slot_word side i zero = SlotPivot side i
-slot_word side i (suc _) = SlotGroup side i
+abbrev pub slot_word : ℕ → ℕ → ℕ → ℕ → Word
+slot_word part side i zero = SlotPivot part side i
+slot_word part side i (suc _) = SlotGroup part side i
 
--- the word so far behind the start of the root, whose sides have so many words
-abbrev pub slot_at : ℕ → ℕ → Word
-slot_at width k = slot_word (k / width) (k % width / 2) (k % width % 2)
+-- the word so far behind the start of a part's root, whose sides have so many words
+abbrev pub slot_at : ℕ → ℕ → ℕ → Word
+slot_at part width k = slot_word part (k / width) (k % width / 2) (k % width % 2)
+
+-- the word so far behind the start of the slots of all roots, whose sides have so many words
+abbrev pub root_at : ℕ → ℕ → Word
+root_at width k = slot_at (k / (2 * width)) width (k % (2 * width))
 
 -- the word so far behind the start of a group, which begins at this address
 abbrev pub in_group : ℕ → ℕ → ℕ → Word
@@ -38,10 +41,12 @@ abbrev pub row_at : ℕ → ℕ → Word
 row_at start k = PlaceWord (start + 4 * (k / 4)) (part_at (k % 4))
 
 -- the word that stands at an address
-unfoldable pub word_at : Limits → ℕ → Word
-word_at l a =
-    if nat_lt a (first_slot_word l) then head_at a
-    else (if nat_lt a (first_group_word l) then slot_at (2 * l.slots) (a - first_slot_word l)
-    else (if nat_lt a (first_row_word l)
-    then group_at (first_group_word l) (group_words_of l) (a - first_group_word l)
-    else row_at (first_row_word l) (a - first_row_word l)))
+unfoldable pub word_at : Shape → ℕ → Word
+word_at s a =
+    if nat_lt a (first_epoch_word s) then head_at a
+    else (if nat_lt a (first_slot_word s) then Epoch (a - first_epoch_word s)
+    else (if nat_lt a (first_group_word s)
+    then root_at (2 * s.limits.slots) (a - first_slot_word s)
+    else (if nat_lt a (first_row_word s)
+    then group_at (first_group_word s) (group_words_of s.limits) (a - first_group_word s)
+    else row_at (first_row_word s) (a - first_row_word s))))

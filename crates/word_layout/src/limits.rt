@@ -1,26 +1,30 @@
 //! The sizes of an index, and the rules that they must keep before a table is laid out.
 //!
 //! A rule has a number, and a refusal names the first rule that is broken.
-ghost use Rattle.std.specs.Prelude.{◌≡◌, ◌↔◌, IsOk, IfOk, IfErr, IfSome, IfNone, position, not};
-ghost use Rattle.word_layout.specs.Limits.{KeepsRules, IsFirstBroken, is_within, rules, word_count};
+ghost use Rattle.std.specs.Prelude.{◌≡◌, ◌↔◌, [], IsOk, IfOk, IfErr, IfSome, IfNone, position, not};
+ghost use Rattle.word_layout.specs.Limits.{KeepsRules, KeepsRulesIn, IsFirstBroken, IsFirstBrokenIn};
+ghost use Rattle.word_layout.specs.Limits.{is_within, rules_in, word_count};
+ghost use Rattle.word_layout.specs.Parts.{AreBounds, part_count};
+ghost use Rattle.word_layout.specs.Shape.{shape};
 
 use crate::layout::Layout;
+use crate::parts::Parts;
 use crate::state::LAST_VERSION;
 use std::error::Error;
 use std::fmt;
 
-/// How many of each part a table has, and the counts by which the keeper works.
+/// The sizes of a table, and the counts by which a keeper works.
 #[derive(Clone, Copy, Debug, PartialEq, Eq)]
 pub struct Limits {
     /// Rule 1: how many threads call at once, 1 to 64.
     pub callers: u32,
     /// Rule 2: the record rows of all buffers together, 2 to 16,777,216.
     pub records: u32,
-    /// Rule 3: the group rows, 2 to 65,536.
+    /// Rule 3: the group rows of each part, 2 to 65,536.
     pub groups: u32,
     /// Rule 4: the places of a group's array, 8 to 1,024.
     pub group_size: u32,
-    /// Rule 5: the slots of each side of the root, 1 to 4,096.
+    /// Rule 5: the slots of each side of each part's root, 1 to 4,096.
     pub slots: u32,
     /// Rule 6: the rows of a buffer from which on its group is rebuilt, 1 to `group_size`.
     pub due: u32,
@@ -47,7 +51,7 @@ impl fmt::Display for BadLimit {
 impl Error for BadLimit {}
 
 impl Limits {
-    ghost use Rattle.word_layout.specs.Layout.{limits_of};
+    ghost use Rattle.word_layout.specs.Layout.{limits_of, bounds_of};
 
     /// The limits that an index has where none are named. Their table has 531,462 words.
     pub fn standard() -> Limits
@@ -77,30 +81,41 @@ impl Limits {
         }
     }
 
-    /// Where the words of a table with these limits stand.
+    /// Where the words of a table with these limits and one part stand.
     pub fn layout(&self) -> Result<Layout, BadLimit>
         ensures accepts { IsOk result ↔ KeepsRules self.now }
         ensures limits { IfOk result (λ layout. limits_of layout ≡ self.now) }
+        ensures parts { IfOk result (λ layout. bounds_of layout ≡ []) }
         ensures refuses { IfErr result (λ bad. IsFirstBroken self.now bad.number) }
     {
-        match self.first_broken_rule() {
+        self.layout_in(Parts::whole())
+    }
+
+    /// Where the words of a table with these limits and parts stand.
+    pub fn layout_in(&self, parts: Parts) -> Result<Layout, BadLimit>
+        ensures accepts { IsOk result ↔ KeepsRulesIn (shape self.now parts) }
+        ensures limits { IfOk result (λ layout. limits_of layout ≡ self.now) }
+        ensures parts { IfOk result (λ layout. bounds_of layout ≡ parts) }
+        ensures refuses { IfErr result (λ bad. IsFirstBrokenIn (shape self.now parts) bad.number) }
+    {
+        match self.first_broken_rule(&parts) {
             Some(number) => Err(BadLimit { number }),
-            None => Ok(Layout::new(*self)),
+            None => Ok(Layout::new(*self, parts)),
         }
     }
 
     /// The number of the first rule that is broken.
-    fn first_broken_rule(&self) -> Option<u32>
-        ensures broken { IfSome result (IsFirstBroken self.now) }
-        ensures all_kept { IfNone result (KeepsRules self.now) }
+    fn first_broken_rule(&self, parts: &Parts) -> Option<u32>
+        ensures broken { IfSome result (IsFirstBrokenIn (shape self.now parts.now)) }
+        ensures all_kept { IfNone result (KeepsRulesIn (shape self.now parts.now)) }
     {
-        let at = first_false(&self.rules())?;
+        let at = first_false(&self.rules(parts))?;
         Some(at as u32 + 1)
     }
 
     // Whether each rule is kept, in the order of their numbers.
-    fn rules(&self) -> [bool; 10]
-        ensures { result ≡ rules self.now }
+    fn rules(&self, parts: &Parts) -> [bool; 10]
+        ensures { result ≡ rules_in (shape self.now parts.now) }
     {
         [
             is_within(1, self.callers, 64),
@@ -112,18 +127,22 @@ impl Limits {
             is_within(1, self.help, 1048576),
             is_within(1, self.chain, 4096),
             self.first_version <= LAST_VERSION,
-            self.word_count() <= 268435456,
+            self.word_count(parts) <= 268435456,
         ]
     }
 
     // The products do not fit 64 bits at the greatest numbers, which no rule has excluded yet.
-    fn word_count(&self) -> u128
-        ensures { result ≡ word_count self.now }
+    fn word_count(&self, parts: &Parts) -> u128
+        ensures { result ≡ word_count (shape self.now parts.now) }
     {
+        let parts = u128::from(parts.count());
         let group_words = 24 + 4 * u128::from(self.group_size);
-        2 + u128::from(self.callers)
-            + 4 * u128::from(self.slots)
-            + u128::from(self.groups) * group_words
+        let slot_words = parts * (4 * u128::from(self.slots));
+        let groups = parts * u128::from(self.groups);
+        1 + parts
+            + u128::from(self.callers)
+            + slot_words
+            + groups * group_words
             + 4 * u128::from(self.records)
     }
 }

@@ -1,5 +1,5 @@
 -- A rebuild with two new groups is under way, and no group can be begun anew meanwhile.
-use Rattle.std.proofs.Common.{◌≡◌, ◌≢◌, ℕ, ◌≤◌, inl, inr, Option, Some}
+use Rattle.std.proofs.Common.{◌≡◌, ◌≢◌, ℕ, ◌/◌, ◌<◌, ◌≤◌, inl, inr, Option, Some}
 use Rattle.std.proofs.Common.{Bool, true, [], ◌∷◌, cond, refl, sym, ◌∙◌, subst}
 use Rattle.std.proofs.Common.{arith, ◌⊎◌}
 use mathlib.Core.Logic.{dite}
@@ -11,7 +11,8 @@ use Rattle.index_machine.specs.Conditions.{Valid}
 use Rattle.index_machine.specs.Execution.{Execution, event}
 use Rattle.index_machine.specs.Groups.{phase, rebuild, unless_named}
 use Rattle.index_machine.specs.KeyRanges.{group_of, successor}
-use Rattle.index_machine.specs.Openings.{greatest_key}
+use Rattle.word_layout.specs.Parts.{greatest_key}
+use Rattle.index_machine.specs.Keepers.{IsKeyIn}
 use Rattle.index_machine.specs.Permissions.{IsGone}
 use Rattle.index_machine.specs.RebuildConditions.{MayBegin, MayOpen}
 use Rattle.index_machine.specs.Words.{opening_cut}
@@ -22,10 +23,12 @@ use Rattle.word_layout.specs.declared.headers.HeaderWord.TheVariants as header
 use Rattle.word_layout.specs.declared.phase.Phase.TheVariants.{Opened}
 use Rattle.worked_executions.proofs.FourGroups.{o, new_1, group_1, new_2}
 use Rattle.worked_executions.proofs.FourGroups.{at_key, not_0_in_1, not_3_in_1, opened_6, is_keeper}
-use Rattle.worked_executions.proofs.FourGroups.{no_insert, gone_if}
+use Rattle.worked_executions.proofs.FourGroups.{no_insert, caller_is, named_1}
+use Rattle.worked_executions.proofs.OneCaller.{gone_if}
 use Rattle.worked_executions.proofs.Equations.{Same, SameOption}
 use Rattle.index_machine.proofs.Ranges.{in_range}
 use Rattle.worked_executions.proofs.HeaderWrites.{IsFreeRow, written}
+use Rattle.worked_executions.proofs.OnePart.{in_whole}
 use Rattle.worked_executions.proofs.NewLanes.{behind_cuts, no_opening_cut, two_lanes}
 use Rattle.worked_executions.proofs.SplitInTwo.{laned_3, valid_begun_3}
 use Rattle.worked_executions.proofs.TwoNewGroups.{ArePair, pair_opens}
@@ -60,16 +63,18 @@ opened_so_far : (g f : ℕ) → phase g begun_3 ≡ Opened f → Same 0 g × Sam
 opened_so_far g f e = opened_6 g f (begun_back 3 g (phase g (laned_3 1)) f e).2
 
 gone0_begun : IsGone o 0 begun_3
-gone0_begun = gone_if begun_3 1 0 refl refl refl refl (λ e. omega (arith, e)) not_0_in_1
+gone0_begun = gone_if o caller_is begun_3 0 (λ p. refl) (λ p w e. none_some e)
+    (named_1 0 (λ e. omega (arith, e)) (omega arith)) refl not_0_in_1
 
 not_0_yet : (k : ℕ) → successor k begun_3 ≢ Some 0
-not_0_yet = at_key (λ a b w. SameOption (cond a (Some 3) (unless_named 3 (new_1 a b))) (Some 0) → ⊥)
+not_0_yet = at_key (λ a b w v. SameOption (cond a (Some 3) (unless_named 3 (new_1 a b))) (Some 0) → ⊥)
     (λ e. let bad : Same 3 0 = some_is e in omega (arith, bad))
     (λ e. let bad : Same 2 0 = some_is e in omega (arith, bad)) (λ e. none_some e)
 
-free0_begun : IsFreeRow o 0 begun_3
+free0_begun : IsFreeRow o 1 0 begun_3
 free0_begun = record {
   valid = valid_begun_3 1;
+  is_hand = is_keeper;
   keeper = refl;
   exists = omega arith;
   gone = gone0_begun;
@@ -77,28 +82,30 @@ free0_begun = record {
   unplanned = not_0_yet;
 }
 
-free0_cuts : IsFreeRow o 0 cuts_0
-free0_cuts = written o 0 (header.Cut 1) 8 first_cut_0 (omega arith)
-    (written o 0 (header.Cut 0) 5 lanes_0 (omega arith)
-    (written o 0 header.Lanes 2 cleared_0 tt (written o 0 header.Phase 0 begun_3 tt free0_begun)))
+free0_cuts : IsFreeRow o 1 0 cuts_0
+free0_cuts = written o 1 0 (header.Cut 1) 8 first_cut_0 (omega arith)
+    (written o 1 0 (header.Cut 0) 5 lanes_0 (omega arith)
+    (written o 1 0 header.Lanes 2 cleared_0 tt (written o 1 0 header.Phase 0 begun_3 tt free0_begun)))
 
 begins0 : MayBegin o cuts_0 1 0 5 greatest_key 3
 begins0 = record {
   keeper = refl;
   exists = omega arith;
-  ordered = (omega arith, omega arith);
+  ordered = omega arith;
+  in_part = (in_whole 5 (omega arith), in_whole greatest_key (omega arith));
+  first_in_part = refl;
   gone = free0_cuts.gone;
   settled = free0_cuts.settled;
   phase_word = refl;
   new_lanes = two_lanes o 0 5 8 greatest_key cuts_0 (omega arith) (omega arith) refl refl refl
-      (λ i from. behind_cuts i 5 8 (opening_cut [] i) from
+      (λ i from. behind_cuts i 5 8 (opening_cut 0 [] i) from
       ∙ no_opening_cut i (omega (arith, from))) (λ i. refl);
   closed = no_insert cuts_0 0 refl (λ f. refl);
   no_row = λ p k e. cc;
   not_live = λ k p j h e. cc;
   no_target = λ a p y j h e. cc;
   unreached = λ b p j is m e. cc;
-  idle = λ k f e. not_0_in_1 k (sym (opened_so_far (group_of o k cuts_0) f e).0);
+  idle = λ k f is e. not_0_in_1 k (sym (opened_so_far (group_of o k cuts_0) f e).0);
   replaced = λ g e. let bad = (opened_so_far g 0 e).1 in absurd (omega (arith, bad));
   no_old_target = λ a p y g k e at s. let bad = (opened_so_far g 0 at).1 in omega (arith, bad);
 }
@@ -132,17 +139,21 @@ pair_3 = record {
 }
 
 keys_of_1 : (k : ℕ) → group_of o k begun_0 ≡ 1 → k ≤ greatest_key
-keys_of_1 k e = (in_range 0 greatest_key k (at_key (λ a b w. Same (group_1 a b w) 1 → w ≡ true)
+keys_of_1 k e = (in_range 0 greatest_key k (at_key (λ a b w v. Same (group_1 a b w v) 1 → w ≡ true)
     (λ f. refl) (λ f. refl) (λ f. absurd (omega (arith, f))) k e)).1
 
 opens1 : MayOpen o begun_0 1 1 3
-opens1 = pair_opens begun_0 3 0 new_pair pair_3 1 refl (no_insert begun_0 1 refl (λ f. refl))
+opens1 = pair_opens begun_0 3 0 new_pair pair_3 1 (omega arith) refl (no_insert begun_0 1 refl (λ f. refl))
     none_yet keys_of_1
 
 valid_opened_1 : Valid o opened_1
 valid_opened_1 = (opens1, (begins0, free0_cuts.valid, is_keeper), is_keeper)
 
 -- ---- no group is begun anew ----
+
+-- all groups are of the one part
+one_part : (group : ℕ) → group < 4 → Same 0 (group / 4)
+one_part group exists = omega arith
 
 pub none_begun : NoGroupIsBegunMeanwhile
 none_begun = (
@@ -151,5 +162,7 @@ none_begun = (
   refl,
   valid_opened_1,
   λ hand group low high first valid.
-      beginnings_wait o opened_1 hand group low high first valid.0 0 3 refl,
+      let zero : Same 0 (group / 4) = one_part group valid.0.exists in
+      beginnings_wait o opened_1 hand group low high first valid.0 0 3
+      (subst (λ (p : ℕ). IsKeyIn o p 0) zero (in_whole 0 (omega arith))) refl,
 )

@@ -1,5 +1,5 @@
 -- A table with four groups, the events of two rebuilds on it, and its keys in two ranges.
-use Rattle.std.proofs.Common.{◌≡◌, ◌≢◌, ℕ, ◌+◌, ◌*◌, ◌<◌, ◌≤◌, inl, inr, ⊎_elim, Option, Some}
+use Rattle.std.proofs.Common.{◌≡◌, ◌≢◌, ℕ, ◌*◌, ◌<◌, ◌≤◌, nat_le, inl, inr, ⊎_elim, Option, Some}
 use Rattle.std.proofs.Common.{None, Bool, true, false, [], ◌∷◌, cond, refl, sym, ◌∙◌, subst}
 use Rattle.std.proofs.Common.{arith, nat_lt, ◌⊎◌}
 use Rattle.worked_executions.proofs.Equations.{Same, SameOption}
@@ -8,11 +8,12 @@ use mathlib.Core.Logic.{dite}
 use native.Mathlib.Decide.{ℕ_discrete}
 use Rattle.index_machine.proofs.Executions.{choice-other, choice-same}
 use Rattle.index_machine.specs.Execution.{Execution, event}
-use Rattle.index_machine.specs.Groups.{IsInUse, phase, rebuild, root, slot, unless_named}
+use Rattle.index_machine.specs.Groups.{IsInUse, phase, unless_named}
 use Rattle.index_machine.specs.KeyRanges.{group_of, or_else, successor}
-use Rattle.index_machine.specs.Openings.{greatest_key, within}
-use Rattle.index_machine.specs.Permissions.{IsGone, IsReadableSlot, MayInsertInto}
-use Rattle.index_machine.specs.Reaching.{SeesSlot, root_seen, saw_open, saw_opened, stands_in}
+use Rattle.word_layout.specs.Parts.{greatest_key}
+use Rattle.index_machine.specs.Openings.{within}
+use Rattle.index_machine.specs.Permissions.{MayInsertInto}
+use Rattle.index_machine.specs.Reaching.{saw_open, saw_opened}
 use Rattle.index_machine.specs.Sections.{IsCaller, IsHand}
 use Rattle.index_machine.specs.declared.events.Action.TheVariants.{Freeze, NewGroup, StoreHeader}
 use Rattle.index_machine.specs.declared.events.Action.TheVariants.{StoreOpened, Install}
@@ -20,6 +21,8 @@ use Rattle.index_machine.specs.declared.events.InstallWord.TheVariants.{FirstSlo
 use Rattle.index_machine.specs.declared.opening.Opening.{Opening}
 use Rattle.machine_barriers.proofs.OpenedGroups.{begun_back, frozen_not, open_not, opened_back}
 use Rattle.machine_barriers.proofs.OpenedGroups.{opened_is}
+use Rattle.worked_executions.proofs.OneCaller.{no_insert as caller_inserts_not, first_slot, first_slot_is}
+use Rattle.worked_executions.proofs.OnePart.{one_part_cut, is_key}
 use Rattle.worked_executions.specs.NameUsedAgain.{four_groups}
 use Rattle.index_machine.proofs.Options.{none_some, not_so, some_is}
 use Rattle.word_layout.specs.declared.headers.HeaderWord.TheVariants as header
@@ -32,7 +35,9 @@ abbrev pub four_group_layout : Layout
 four_group_layout =
     record {
       limits = four_groups;
+      parts = [];
       group_words = 56;
+      slots_from = 3;
       groups_from = 7;
       rows_from = 231;
       kept = record {
@@ -55,7 +60,9 @@ four_group_layout =
         most_first_version = omega arith;
         most_words = omega arith;
       };
+      cut = one_part_cut;
       group_width = refl;
+      slots_behind_epochs = refl;
       groups_behind_slots = refl;
       rows_behind_groups = refl;
     }
@@ -103,7 +110,7 @@ abbrev pub step_4 : Execution
 step_4 = event 1 (StoreOpened 0 1) ∷ step_3
 
 abbrev pub step_5 : Execution
-step_5 = event 1 (Install (FirstSlot 0) 1 0 greatest_key) ∷ step_4
+step_5 = event 1 (Install (FirstSlot 0 0) 1 0 greatest_key) ∷ step_4
 
 abbrev pub frozen_1 : Execution
 frozen_1 = event 1 (Freeze 1) ∷ step_5
@@ -121,7 +128,7 @@ abbrev pub step_8 : Execution
 step_8 = event 1 (StoreOpened 1 3) ∷ step_7
 
 abbrev pub step_9 : Execution
-step_9 = event 1 (Install (FirstSlot 0) 3 0 4) ∷ step_8
+step_9 = event 1 (Install (FirstSlot 0 0) 3 0 4) ∷ step_8
 
 abbrev pub frozen_2 : Execution
 frozen_2 = event 1 (Freeze 2) ∷ step_9
@@ -201,21 +208,22 @@ is_high k above = rw (le-ltb k 0 (omega arith), lt-ltb 4 k above) refl
 abbrev pub new_1 : Bool → Bool → Option ℕ
 new_1 a b = cond b (Some 2) (unless_named 2 (cond a (Some 1) None))
 
-abbrev pub group_1 : Bool → Bool → Bool → ℕ
-group_1 a b w = cond w (or_else (new_1 a b) (cond w 0 4)) (cond w 0 4)
+abbrev pub group_1 : Bool → Bool → Bool → Bool → ℕ
+group_1 a b w v = cond w (or_else (new_1 a b) (cond v 0 4)) (cond v 0 4)
 
 abbrev pub new_2 : Bool → Bool → Option ℕ
 new_2 a b = cond a (Some 3) (unless_named 3 (new_1 a b))
 
-abbrev pub group_2 : Bool → Bool → Bool → ℕ
-group_2 a b w = cond a (or_else (new_2 a b) (group_1 a b w)) (group_1 a b w)
+abbrev pub group_2 : Bool → Bool → Bool → Bool → ℕ
+group_2 a b w v = cond a (or_else (new_2 a b) (group_1 a b w v)) (group_1 a b w v)
 
 abbrev pub new_3 : Bool → Bool → Option ℕ
 new_3 a b = cond b (Some 1) (unless_named 1 (new_2 a b))
 
--- a statement of a key's ranges, from the three kinds of number
-pub by_range : (P : Bool → Bool → Bool → Type 0) → P true false true → P false true true →
-    P false false false → (a b w : Bool) → IsSplit a b w → P a b w
+-- a statement of a key's ranges, and of whether it is a key by one comparison, from the three kinds of
+-- number
+pub by_range : (P : Bool → Bool → Bool → Bool → Type 0) → P true false true true →
+    P false true true true → P false false false false → (a b w : Bool) → IsSplit a b w → P a b w w
 by_range P low high none true false true s = low
 by_range P low high none false true true s = high
 by_range P low high none false false false s = none
@@ -226,39 +234,42 @@ by_range P low high none false true false s = absurd s
 by_range P low high none false false true s = absurd s
 
 -- so of every number
-pub at_key : (P : Bool → Bool → Bool → Type 0) → P true false true → P false true true →
-    P false false false → (k : ℕ) →
-    P (within 0 k 4) (within 5 k greatest_key) (within 0 k greatest_key)
-at_key P low high none k = by_range P low high none (within 0 k 4) (within 5 k greatest_key)
-    (within 0 k greatest_key) (split k)
+pub at_key : (P : Bool → Bool → Bool → Bool → Type 0) → P true false true true →
+    P false true true true → P false false false false → (k : ℕ) →
+    P (within 0 k 4) (within 5 k greatest_key) (within 0 k greatest_key) (nat_le k greatest_key)
+at_key P low high none k = subst
+    (λ (v : Bool). P (within 0 k 4) (within 5 k greatest_key) (within 0 k greatest_key) v)
+    (sym (is_key k))
+    (by_range P low high none (within 0 k 4) (within 5 k greatest_key) (within 0 k greatest_key)
+    (split k))
 
 -- which groups answer for no key: at first, after the first install, and after the second
 pub not_1_in_0 : (k : ℕ) → group_of o k step_1 ≢ 1
-not_1_in_0 = at_key (λ a b w. Same (cond w 0 4) 1 → ⊥) (λ e. omega (arith, e))
+not_1_in_0 = at_key (λ a b w v. Same (cond v 0 4) 1 → ⊥) (λ e. omega (arith, e))
     (λ e. omega (arith, e)) (λ e. omega (arith, e))
 
 pub not_2_in_0 : (k : ℕ) → group_of o k step_1 ≢ 2
-not_2_in_0 = at_key (λ a b w. Same (cond w 0 4) 2 → ⊥) (λ e. omega (arith, e))
+not_2_in_0 = at_key (λ a b w v. Same (cond v 0 4) 2 → ⊥) (λ e. omega (arith, e))
     (λ e. omega (arith, e)) (λ e. omega (arith, e))
 
 pub not_0_in_1 : (k : ℕ) → group_of o k step_5 ≢ 0
-not_0_in_1 = at_key (λ a b w. Same (group_1 a b w) 0 → ⊥) (λ e. omega (arith, e))
+not_0_in_1 = at_key (λ a b w v. Same (group_1 a b w v) 0 → ⊥) (λ e. omega (arith, e))
     (λ e. omega (arith, e)) (λ e. omega (arith, e))
 
 pub not_3_in_1 : (k : ℕ) → group_of o k step_5 ≢ 3
-not_3_in_1 = at_key (λ a b w. Same (group_1 a b w) 3 → ⊥) (λ e. omega (arith, e))
+not_3_in_1 = at_key (λ a b w v. Same (group_1 a b w v) 3 → ⊥) (λ e. omega (arith, e))
     (λ e. omega (arith, e)) (λ e. omega (arith, e))
 
 pub not_0_in_2 : (k : ℕ) → group_of o k step_9 ≢ 0
-not_0_in_2 = at_key (λ a b w. Same (group_2 a b w) 0 → ⊥) (λ e. omega (arith, e))
+not_0_in_2 = at_key (λ a b w v. Same (group_2 a b w v) 0 → ⊥) (λ e. omega (arith, e))
     (λ e. omega (arith, e)) (λ e. omega (arith, e))
 
 pub not_1_in_2 : (k : ℕ) → group_of o k step_9 ≢ 1
-not_1_in_2 = at_key (λ a b w. Same (group_2 a b w) 1 → ⊥) (λ e. omega (arith, e))
+not_1_in_2 = at_key (λ a b w v. Same (group_2 a b w v) 1 → ⊥) (λ e. omega (arith, e))
     (λ e. omega (arith, e)) (λ e. omega (arith, e))
 
 pub not_1_after : (k : ℕ) → successor k step_9 ≢ Some 1
-not_1_after = at_key (λ a b w. SameOption (new_2 a b) (Some 1) → ⊥)
+not_1_after = at_key (λ a b w v. SameOption (new_2 a b) (Some 1) → ⊥)
     (λ e. let bad : Same 3 1 = some_is e in omega (arith, bad))
     (λ e. let bad : Same 2 1 = some_is e in omega (arith, bad)) (λ e. none_some e)
 
@@ -305,44 +316,32 @@ pub caller_is : (c : ℕ) → IsCaller o c → Same 0 c
 caller_is c is = let h : c < 1 = is in omega (arith, h)
 
 pub is_keeper : IsHand o 1
-is_keeper = let h : 1 ≤ 1 = omega arith in h
+is_keeper = let h : 1 < 2 = omega arith in h
 
 pub no_insert : (t : Execution) (g : ℕ) → saw_open 0 g t ≡ false →
     ((f : ℕ) → saw_opened 0 f t ≡ false) → (c : ℕ) → IsCaller o c → MayInsertInto c g t → ⊥
-no_insert t g shut none c is l = ⊎_elim
-    (λ (z : saw_open c g t ≡ true). not_so (sym shut
-    ∙ subst (λ (y : ℕ). saw_open y g t ≡ true) (sym (caller_is c is)) z))
-    (λ (z : (f : ℕ) × (rebuild g t ≡ Some f) × (saw_opened c f t ≡ true)). not_so (sym (none z.0)
-    ∙ subst (λ (y : ℕ). saw_opened y z.0 t ≡ true) (sym (caller_is c is)) z.2)) l
-
-pub nobody_in : (t : Execution) (g : ℕ) → stands_in 0 g t ≡ false → (c : ℕ) → IsCaller o c →
-    stands_in c g t ≡ true → ⊥
-nobody_in t g none c is s = not_so (sym none ∙ subst (λ (y : ℕ). stands_in y g t ≡ true)
-    (sym (caller_is c is)) s)
-
-pub used_slot : (side i : ℕ) → IsInUse 2 side i → Same 0 side × Same 0 i
-used_slot side i u = let e : Same 2 (2 * u.0 + side) = u.1 in let low = u.2 in let under = u.3 in
-    (omega arith, omega arith)
+no_insert t g shut none = caller_inserts_not o caller_is t g shut none
 
 pub first_slot_used : IsInUse 2 0 0
 first_slot_used = (1, refl, omega arith, omega arith)
 
--- the slots that can be loaded are the first one
-pub slot_is : (t : Execution) (n : ℕ) → root o t ≡ 2 → root_seen 0 t ≡ None → slot o 0 0 t ≡ n →
-    (side i : ℕ) → IsReadableSlot o side i t → slot o side i t ≡ n
-slot_is t n is none at side i r = ⊎_elim
-    (λ (z : IsInUse (root o t) side i). let s =
-    used_slot side i (subst (λ (y : ℕ). IsInUse y side i) is z) in
-    subst (λ (y : ℕ). slot o y i t ≡ n) s.0 (subst (λ (y : ℕ). slot o 0 y t ≡ n) s.1 at))
-    (λ (z : (c : ℕ) × IsCaller o c × SeesSlot c side i t). let w = z.2 in
-    none_some (sym none ∙ subst (λ (y : ℕ). root_seen y t ≡ Some w.0)
-    (sym (caller_is z.0 z.1)) w.1)) r
+-- ---- what the first slots name: at first, after the first install, and after the second ----
 
--- where the first slot names another group, the group is gone
-pub gone_if : (t : Execution) (n g : ℕ) → root o t ≡ 2 → root_seen 0 t ≡ None → slot o 0 0 t ≡ n →
-    stands_in 0 g t ≡ false → n ≢ g → ((k : ℕ) → group_of o k t ≢ g) → IsGone o g t
-gone_if t n g is none at nobody other unowned = record {
-  unowned = unowned;
-  unnamed = λ side i r e. other (sym (slot_is t n is none at side i r) ∙ e);
-  empty = nobody_in t g nobody;
-}
+pub named_0 : (g : ℕ) → 1 ≤ g → g < 4 → (p : ℕ) → Same (p * 4) g → ⊥
+named_0 g some exists p e = omega (arith, e)
+
+pub named_1 : (g : ℕ) → 1 ≢ g → g < 4 → (p : ℕ) → Same (first_slot 0 p 1 (p * 4)) g → ⊥
+named_1 g other exists p e = ⊎_elim
+    (λ (z : Same 0 p × Same 1 g). other z.1)
+    (λ (z : (0 ≢ p) × Same (p * 4) g). let n = z.0 in let is = z.1 in omega (arith, n, is))
+    (first_slot_is 0 p 1 (p * 4) g e)
+
+pub named_3 : (g : ℕ) → 3 ≢ g → g < 4 → (p : ℕ) →
+    Same (first_slot 0 p 3 (first_slot 0 p 1 (p * 4))) g → ⊥
+named_3 g other exists p e = ⊎_elim
+    (λ (z : Same 0 p × Same 3 g). other z.1)
+    (λ (z : (0 ≢ p) × Same (first_slot 0 p 1 (p * 4)) g). ⊎_elim
+    (λ (y : Same 0 p × Same 1 g). z.0 y.0)
+    (λ (y : (0 ≢ p) × Same (p * 4) g). let n = y.0 in let is = y.1 in omega (arith, n, is))
+    (first_slot_is 0 p 1 (p * 4) g z.1))
+    (first_slot_is 0 p 3 (first_slot 0 p 1 (p * 4)) g e)

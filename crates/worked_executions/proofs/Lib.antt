@@ -1,6 +1,9 @@
 pub mod Equations
 pub mod HeaderWrites
 pub mod NewLanes
+pub mod OneNewGroup
+pub mod OneCaller
+pub mod OnePart
 pub mod SmallForms
 pub mod SmallTable
 pub mod PutWitness
@@ -13,3 +16,6 @@ pub mod TwoNewGroups
 pub mod SplitInTwo
 pub mod NameUsedAgain
 pub mod BegunMeanwhile
+pub mod TwoPartTable
+pub mod TwoKeepers
+pub mod TwoInstalls

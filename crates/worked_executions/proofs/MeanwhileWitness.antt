@@ -81,7 +81,12 @@ valid_changed_6 = (
           says = refl;
         },
         (
-          record { allowed = inl (reading changed_1 refl); found_word = refl; says = refl },
+          record {
+            allowed = inl (reading changed_1 refl);
+            is_part = omega arith;
+            found_word = refl;
+            says = refl;
+          },
           ((record { caller = is_caller; outside = refl }, refl), valid_opened_5, is_hand0),
           is_hand0,
         ),
@@ -176,7 +181,12 @@ valid_linked_7 = (
             says = refl;
           },
           (
-            record { allowed = inl (reading linked_1 refl); found_word = refl; says = refl },
+            record {
+              allowed = inl (reading linked_1 refl);
+              is_part = omega arith;
+              found_word = refl;
+              says = refl;
+            },
             ((record { caller = is_caller; outside = refl }, refl), valid_changed_10, is_hand0),
             is_hand0,
           ),

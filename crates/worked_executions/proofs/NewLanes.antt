@@ -67,7 +67,7 @@ two_lanes o group low cut high t rises within lanes first second absent empty = 
     go (suc (suc i)) is = absurd (omega (arith, is))
 
 -- a table that is opened without rows has one lane in group 0, and no cut behind it
-pub no_opening_cut : (i : ℕ) → 1 ≤ i → Same (opening_cut [] i) 0
+pub no_opening_cut : (i : ℕ) → 1 ≤ i → Same (opening_cut 0 [] i) 0
 no_opening_cut i from = rw (le-ltb i 1 from) refl
 
 -- behind two cuts that were written stands what stood there before

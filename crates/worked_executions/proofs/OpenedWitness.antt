@@ -1,28 +1,29 @@
 -- The keeper freezes group 0, writes the header of group 1, begins it with two lanes and opens group 0
 -- to it.
-use Rattle.std.proofs.Common.{◌≡◌, ℕ, ◌+◌, ◌<◌, ◌≤◌, inl, Some, None, Bool, true, false}
-use Rattle.std.proofs.Common.{cond, refl, sym, ap, ◌∙◌, subst, arith, nat_lt, ltb-true, ltb-false}
-use Rattle.std.specs.Prelude.{◌==◌}
+use Rattle.std.proofs.Common.{◌≡◌, ℕ, ◌*◌, ◌≤◌, inl, Some, None, Bool, true, false}
+use Rattle.std.proofs.Common.{cond, refl, sym, ap, ◌∙◌, arith}
+use Rattle.std.specs.Prelude.{◌==◌, nat_le}
 use mathlib.Core.Logic.{dite}
 use native.Mathlib.Decide.{ℕ_discrete}
 use Rattle.index_machine.proofs.Executions.{choice-other}
-use Rattle.index_machine.proofs.Options.{none_some, not_so, some_is}
+use Rattle.index_machine.proofs.Options.{none_some}
 use Rattle.index_machine.proofs.Ranges.{in_range, range_in}
 use Rattle.index_machine.specs.Conditions.{Valid}
 use Rattle.index_machine.specs.Groups.{name_used_again, rebuild}
 use Rattle.index_machine.specs.KeyRanges.{group_of, successor}
-use Rattle.index_machine.specs.Openings.{greatest_key, within}
+use Rattle.word_layout.specs.Parts.{greatest_key}
+use Rattle.index_machine.specs.Openings.{within}
 use Rattle.index_machine.specs.Permissions.{IsGone}
-use Rattle.index_machine.specs.Reaching.{stands_in}
-use Rattle.index_machine.specs.RebuildConditions.{HasNewGroup, IsBehindFirst, IsNextWord}
 use Rattle.index_machine.specs.RebuildConditions.{MayBegin, MayOpen}
 use Rattle.index_machine.specs.Rows.{InArray, InBuffer}
-use Rattle.index_machine.specs.Words.{word}
-use Rattle.word_layout.specs.Words.{Header}
 use Rattle.word_layout.specs.declared.headers.HeaderWord.TheVariants as header
 use Rattle.word_layout.specs.declared.phase.Phase.TheVariants.{Frozen, Open, Opened}
 use Rattle.worked_executions.proofs.Equations.{Same, SameOption}
 use Rattle.worked_executions.proofs.HeaderWrites.{IsFreeRow, written}
+use Rattle.worked_executions.proofs.OneCaller.{gone_if}
+use Rattle.std.proofs.lemmas.Bool.{leb-true}
+use Rattle.worked_executions.proofs.OneNewGroup.{IsOnlyNew, one_opens}
+use Rattle.worked_executions.proofs.OnePart.{in_whole}
 use Rattle.worked_executions.proofs.NewLanes.{two_lanes}
 use Rattle.worked_executions.proofs.PutWitness.{before_group, caller_is, is_hand1, no_insert}
 use Rattle.worked_executions.proofs.PutWitness.{valid_put_12}
@@ -43,24 +44,21 @@ pub frozen_unopened : (w : Bool) (f : ℕ) → cond w Frozen Open ≡ Opened f �
 frozen_unopened true f e = cc
 frozen_unopened false f e = cc
 
-pub unread : (side i : ℕ) → Same 0 1 → ⊥
-unread side i e = omega (arith, e)
+other_slot : (p : ℕ) → Same (p * 2) 1 → ⊥
+other_slot p e = omega (arith, e)
 
 pub gone1_opened_1 : IsGone o 1 opened_1
-gone1_opened_1 = record {
-  unowned = λ k e. before_group (within 0 k greatest_key) e;
-  unnamed = λ side i r e. unread side i e;
-  empty = λ c is s. not_so (subst (λ (y : ℕ). stands_in y 1 opened_1 ≡ true)
-      (sym (caller_is c is)) s);
-}
+gone1_opened_1 = gone_if o caller_is opened_1 1 (λ p. refl) (λ p w e. none_some e) other_slot refl
+    (λ k e. before_group (nat_le k greatest_key) e)
 
-free1_opened_1 : IsFreeRow o 1 opened_1
+free1_opened_1 : IsFreeRow o 1 1 opened_1
 free1_opened_1 = record {
   valid = (
     record { keeper = refl; exists = omega arith; was = refl; chained = (0, refl) },
     valid_put_12,
     is_hand1,
   );
+  is_hand = is_hand1;
   keeper = refl;
   exists = omega arith;
   gone = gone1_opened_1;
@@ -68,9 +66,9 @@ free1_opened_1 = record {
   unplanned = λ k e. none_some e;
 }
 
-free1_opened_3 : IsFreeRow o 1 opened_3
-free1_opened_3 = written o 1 (header.Cut 1) 6 opened_2 (omega arith)
-    (written o 1 header.Lanes 2 opened_1 tt free1_opened_1)
+free1_opened_3 : IsFreeRow o 1 1 opened_3
+free1_opened_3 = written o 1 1 (header.Cut 1) 6 opened_2 (omega arith)
+    (written o 1 1 header.Lanes 2 opened_1 tt free1_opened_1)
 
 -- ---- the new group ----
 
@@ -78,7 +76,9 @@ pub begins1 : MayBegin o opened_3 1 1 0 greatest_key 1
 begins1 = record {
   keeper = refl;
   exists = omega arith;
-  ordered = (omega arith, omega arith);
+  ordered = omega arith;
+  in_part = (in_whole 0 (omega arith), in_whole greatest_key (omega arith));
+  first_in_part = refl;
   gone = free1_opened_3.gone;
   settled = free1_opened_3.settled;
   phase_word = refl;
@@ -89,7 +89,7 @@ begins1 = record {
   not_live = λ k p j h e. no_array_first (119 == p) 1 j e;
   no_target = λ a p y j h e. no_array_first (119 == p) 1 j e;
   unreached = λ b p j is m e. no_array_first (119 == p) 1 j e;
-  idle = λ k f e. frozen_unopened (0 == group_of o k opened_3) f e;
+  idle = λ k f is e. frozen_unopened (0 == group_of o k opened_3) f e;
   replaced = λ g e. absurd (frozen_unopened (0 == g) 1 e);
   no_old_target = λ a p y g k e at s. frozen_unopened (0 == g) 1 at;
 }
@@ -102,73 +102,47 @@ new_unopened true w f e = cc
 new_unopened false true f e = cc
 new_unopened false false f e = cc
 
-pub fresh_new : (v w : Bool) → SameOption (cond v (Some 1) None) (Some 1) →
-    cond v Open (name_used_again 1 (cond w Frozen Open)) ≡ Open
-fresh_new true w e = refl
-fresh_new false w e = none_some e
+-- the rebuild made group 1 alone
+pub made_by_1 : (h : ℕ) → rebuild h opened_4 ≡ Some 1 → Same 1 h
+made_by_1 h e = dite (ℕ_discrete 1 h) (λ (z : Same 1 h). z)
+    (λ (n : Same 1 h → ⊥). none_some (sym (choice-other 1 h (Some 1) None n) ∙ e))
 
-pub planned_new : (w : Bool) → Same (cond w 0 2) 0 → SameOption (cond w (Some 1) None) (Some 1)
-planned_new true e = refl
-planned_new false e = absurd (omega (arith, e))
-
-pub new_group : (w : Bool) (h : ℕ) → SameOption (cond w (Some 1) None) (Some h) → Same 1 h
-new_group true h e = some_is e
-new_group false h e = none_some e
-
-pub new_within : (w : Bool) (h : ℕ) → SameOption (cond w (Some 1) None) (Some h) → w ≡ true
-new_within true h e = refl
-new_within false h e = none_some e
-
--- all keys have the new group 1
-pub new_below : (k h : ℕ) → successor k opened_4 ≡ Some h → k ≤ greatest_key
-new_below k h e = (in_range 0 greatest_key k (new_within (within 0 k greatest_key) h e)).1
-
-pub has_new : (k : ℕ) → k ≤ greatest_key → HasNewGroup 1 k opened_4
-has_new k below =
-    (1, ap (λ (w : Bool). cond w (Some 1) None) (range_in 0 greatest_key k (omega arith) below), refl)
-
-pub behind_1 : (k : ℕ) → group_of o k opened_4 ≡ 0 → IsBehindFirst o 1 k opened_4
-behind_1 k e =
-    let below = new_below k 1 (planned_new (within 0 k greatest_key) e) in
-    let first : 0 ≤ k = omega arith in
-    (first, refl, λ j above under. has_new j (omega (arith, below, under)))
-
-pub ends_1 : (k h : ℕ) → successor k opened_4 ≡ Some h → rebuild h opened_4 ≡ Some 1 →
-    (HasNewGroup 1 (k + 1) opened_4 → ⊥) → IsNextWord o opened_4 k (word o opened_4 (Header h header.Next))
-ends_1 k h new made last = go (nat_lt k greatest_key) refl
+-- all keys have the new group 1, and at first the group 0
+pub new_keys : (k : ℕ) → successor k opened_4 ≡ Some 1 → (0 ≤ k) × (k ≤ greatest_key)
+new_keys k e = in_range 0 greatest_key k (go (within 0 k greatest_key) e)
   where
-    go : (x : Bool) → nat_lt k greatest_key ≡ x →
-        IsNextWord o opened_4 k (word o opened_4 (Header h header.Next))
-    go true e = let more : k < greatest_key = ltb-true k greatest_key e in
-        absurd (last (has_new (k + 1) (omega (arith, more))))
-    go false e = let above : greatest_key ≤ k = ltb-false k greatest_key e in
-        let below = new_below k h new in
-        inl (
-          omega (arith, above, below),
-          subst (λ (y : ℕ). word o opened_4 (Header y header.Next) ≡ 0)
-              (new_group (within 0 k greatest_key) h new) refl,
-        )
+    go : (w : Bool) → SameOption (cond w (Some 1) None) (Some 1) → w ≡ true
+    go true e = refl
+    go false e = none_some e
 
-pub opens0 : MayOpen o opened_4 1 0 1
-opens0 = record {
-  keeper = refl;
-  frozen = refl;
-  closed = no_insert opened_4 0 refl refl;
-  named = refl;
-  fresh = λ h e. fresh_new (1 == h) (0 == h) e;
-  unchained = λ k h e z. dite (ℕ_discrete 1 h)
-      (λ (s : Same 1 h). before_group (within 0 k greatest_key) (z ∙ sym s))
-      (λ (n : Same 1 h → ⊥). none_some (sym (choice-other 1 h (Some 1) None n) ∙ e));
-  planned = λ k e. (1, planned_new (within 0 k greatest_key) e, refl);
-  behind = behind_1;
-  ends = ends_1;
-  chained = λ k g h made new is next n. absurd (n
-      (sym (new_group (within 0 k greatest_key) g is)
-      ∙ new_group (within 0 (k + 1) greatest_key) h next));
-  siblings = λ j at. absurd (new_unopened (1 == j) (0 == j) 1 at);
-  only = λ g e at. absurd (new_unopened (1 == g) (0 == g) e at);
-  past = λ h e at from. absurd (new_unopened (1 == h) (0 == h) e at);
+pub keys_new : (k : ℕ) → 0 ≤ k → k ≤ greatest_key → successor k opened_4 ≡ Some 1
+keys_new k above below =
+    ap (λ (w : Bool). cond w (Some 1) None) (range_in 0 greatest_key k above below)
+
+pub keys_of_0 : (k : ℕ) → group_of o k opened_4 ≡ 0 → (0 ≤ k) × (k ≤ greatest_key)
+keys_of_0 k e = (omega arith, leb-true k greatest_key (go (nat_le k greatest_key) e))
+  where
+    go : (v : Bool) → Same (cond v 0 2) 0 → v ≡ true
+    go true e = refl
+    go false e = absurd (omega (arith, e))
+
+only_1 : IsOnlyNew o opened_4 0 0 greatest_key 1
+only_1 = record {
+  made = refl;
+  is_open = refl;
+  pivot = refl;
+  next = inl (refl, refl);
+  only = made_by_1;
+  of_keys = keys_new;
+  keys = new_keys;
 }
+
+opens0 : MayOpen o opened_4 1 0 1
+opens0 = one_opens o opened_4 0 0 greatest_key 1 only_1 1 0 refl refl refl
+    (no_insert opened_4 0 refl refl) keys_of_0
+    (λ k e. before_group (nat_le k greatest_key) e)
+    (λ h at. new_unopened (1 == h) (0 == h) 1 at)
+    (λ h e here at. absurd (new_unopened (1 == h) (0 == h) e at)) (λ h e at by. none_some by)
 
 pub valid_opened_5 : Valid o opened_5
 valid_opened_5 = (opens0, (begins1, free1_opened_3.valid, is_hand1), is_hand1)

@@ -1,21 +1,22 @@
 -- The whole rebuild begins: a caller puts the key 5 into the table's one group.
-use Rattle.std.proofs.Common.{◌≡◌, ℕ, ◌<◌, ◌≤◌, inl, ⊎_elim, Some}
-use Rattle.std.proofs.Common.{None, Bool, true, false, [], ◌∷◌, cond, refl, sym, ◌∙◌, subst}
+use Rattle.std.proofs.Common.{◌≡◌, ℕ, ◌<◌, inl, Some}
+use Rattle.std.proofs.Common.{None, Bool, true, false, [], ◌∷◌, cond, refl, sym}
 use Rattle.std.proofs.Common.{arith}
 use Rattle.std.specs.Prelude.{◌==◌}
-use Rattle.index_machine.proofs.Options.{none_some, not_so}
+use Rattle.index_machine.proofs.Options.{not_so}
 use Rattle.index_machine.specs.Conditions.{Valid}
 use Rattle.index_machine.specs.Execution.{Execution}
 use Rattle.index_machine.specs.Groups.{IsInUse, rebuild}
 use Rattle.index_machine.specs.KeyRanges.{or_else}
 use Rattle.index_machine.specs.Lanes.{HasLane}
 use Rattle.index_machine.specs.Permissions.{MayInsertInto}
-use Rattle.index_machine.specs.Reaching.{saw_open, saw_opened}
+use Rattle.index_machine.specs.Reaching.{saw_open}
 use Rattle.index_machine.specs.RecordConditions.{MayLink}
 use Rattle.index_machine.specs.Rows.{HeldBy, HoldsNone, InBuffer, Unused}
 use Rattle.index_machine.specs.Sections.{IsCaller, IsHand, IsInside, IsReading}
 use Rattle.map_model.specs.declared.entries.Change.TheVariants as change
 use Rattle.worked_executions.proofs.Equations.{Same}
+use Rattle.worked_executions.proofs.OneCaller.{no_insert_unmade}
 use Rattle.worked_executions.proofs.SmallForms.{no_lock_first}
 use Rattle.worked_executions.proofs.SmallTable.{o, put_1, put_10, put_12, put_2, put_3, put_4}
 use Rattle.worked_executions.proofs.SmallTable.{put_5, put_6, put_7}
@@ -29,10 +30,10 @@ pub is_caller : IsCaller o 0
 is_caller = let h : 0 < 1 = omega arith in h
 
 pub is_hand0 : IsHand o 0
-is_hand0 = let h : 0 ≤ 1 = omega arith in h
+is_hand0 = let h : 0 < 2 = omega arith in h
 
 pub is_hand1 : IsHand o 1
-is_hand1 = let h : 1 ≤ 1 = omega arith in h
+is_hand1 = let h : 1 < 2 = omega arith in h
 
 pub first_slot_used : IsInUse 2 0 0
 first_slot_used = (1, refl, omega arith, omega arith)
@@ -43,21 +44,18 @@ pub before_group : (w : Bool) → Same (cond w 0 2) 1 → ⊥
 before_group true e = omega (arith, e)
 before_group false e = omega (arith, e)
 
-pub after_group : (w : Bool) → Same (cond w (or_else (cond w (Some 1) None) (cond w 0 2))
-    (cond w 0 2)) 0 → ⊥
-after_group true e = omega (arith, e)
-after_group false e = omega (arith, e)
+pub after_group : (w v : Bool) → v ≡ w →
+    Same (cond w (or_else (cond w (Some 1) None) (cond v 0 2)) (cond v 0 2)) 0 → ⊥
+after_group true v same e = omega (arith, e)
+after_group false false same e = omega (arith, e)
+after_group false true same e = not_so (sym same)
 
 -- ---- what the caller may do ----
 
 -- the caller may not insert where it did not see the group open, and no rebuild made the group
 pub no_insert : (t : Execution) (g : ℕ) → saw_open 0 g t ≡ false → rebuild g t ≡ None → (c : ℕ) →
     IsCaller o c → MayInsertInto c g t → ⊥
-no_insert t g shut none c is l = ⊎_elim
-    (λ (z : saw_open c g t ≡ true). not_so (sym shut
-    ∙ subst (λ (y : ℕ). saw_open y g t ≡ true) (sym (caller_is c is)) z))
-    (λ (z : (f : ℕ) × (rebuild g t ≡ Some f) × (saw_opened c f t ≡ true)).
-    none_some (sym none ∙ z.1)) l
+no_insert t g shut none = no_insert_unmade o caller_is t g shut none
 
 -- ---- the first record ----
 
@@ -98,7 +96,12 @@ valid_put_7 = (
             says = refl;
           },
           (
-            record { allowed = inl (reading put_1 refl); found_word = refl; says = refl },
+            record {
+              allowed = inl (reading put_1 refl);
+              is_part = omega arith;
+              found_word = refl;
+              says = refl;
+            },
             ((record { caller = is_caller; outside = refl }, refl), tt, is_hand0),
             is_hand0,
           ),

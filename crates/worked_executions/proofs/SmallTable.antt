@@ -1,7 +1,7 @@
 -- A small table, and the events of a whole rebuild on it one by one.
 use Rattle.std.proofs.Common.{false, [], ◌∷◌, refl, arith}
 use Rattle.index_machine.specs.Execution.{Execution, event}
-use Rattle.index_machine.specs.Openings.{greatest_key}
+use Rattle.word_layout.specs.Parts.{greatest_key}
 use Rattle.index_machine.specs.declared.events.Action.TheVariants.{Close, Copy, Enter, Freeze}
 use Rattle.index_machine.specs.declared.events.Action.TheVariants.{Install, Leave, LinkRow}
 use Rattle.index_machine.specs.declared.events.Action.TheVariants.{LoadFree, LoadFreeLink, LoadHead}
@@ -15,6 +15,7 @@ use Rattle.index_machine.specs.declared.events.Action.TheVariants.{StoreRedirect
 use Rattle.index_machine.specs.declared.events.Action.TheVariants.{Unlock}
 use Rattle.index_machine.specs.declared.events.InstallWord.TheVariants.{FirstSlot}
 use Rattle.index_machine.specs.declared.opening.Opening.{Opening}
+use Rattle.worked_executions.proofs.OnePart.{one_part_cut}
 use Rattle.worked_executions.specs.Witness.{small_limits}
 use Rattle.word_layout.specs.declared.layout.Layout.{Layout}
 use Rattle.word_layout.specs.declared.limits.Limits.{Limits}
@@ -31,7 +32,9 @@ abbrev pub small_layout : Layout
 small_layout =
     record {
       limits = l;
+      parts = [];
       group_words = 56;
+      slots_from = 3;
       groups_from = 7;
       rows_from = 119;
       kept = record {
@@ -54,7 +57,9 @@ small_layout =
         most_first_version = omega arith;
         most_words = omega arith;
       };
+      cut = one_part_cut;
       group_width = refl;
+      slots_behind_epochs = refl;
       groups_behind_slots = refl;
       rows_behind_groups = refl;
     }
@@ -75,10 +80,10 @@ abbrev pub put_1 : Execution
 put_1 = event 0 (Enter 1) ∷ []
 
 abbrev pub put_2 : Execution
-put_2 = event 0 (LoadRoot 2) ∷ put_1
+put_2 = event 0 (LoadRoot 0 2) ∷ put_1
 
 abbrev pub put_3 : Execution
-put_3 = event 0 (LoadSlotGroup 0 0 0) ∷ put_2
+put_3 = event 0 (LoadSlotGroup 0 0 0 0) ∷ put_2
 
 abbrev pub put_4 : Execution
 put_4 = event 0 (LoadPhase 0 0) ∷ put_3
@@ -126,10 +131,10 @@ abbrev pub changed_1 : Execution
 changed_1 = event 0 (Enter 3) ∷ opened_5
 
 abbrev pub changed_2 : Execution
-changed_2 = event 0 (LoadRoot 2) ∷ changed_1
+changed_2 = event 0 (LoadRoot 0 2) ∷ changed_1
 
 abbrev pub changed_3 : Execution
-changed_3 = event 0 (LoadSlotGroup 0 0 0) ∷ changed_2
+changed_3 = event 0 (LoadSlotGroup 0 0 0 0) ∷ changed_2
 
 abbrev pub changed_4 : Execution
 changed_4 = event 0 (LoadPhase 0 6) ∷ changed_3
@@ -156,10 +161,10 @@ abbrev pub linked_1 : Execution
 linked_1 = event 0 (Enter 5) ∷ changed_10
 
 abbrev pub linked_2 : Execution
-linked_2 = event 0 (LoadRoot 2) ∷ linked_1
+linked_2 = event 0 (LoadRoot 0 2) ∷ linked_1
 
 abbrev pub linked_3 : Execution
-linked_3 = event 0 (LoadSlotGroup 0 0 0) ∷ linked_2
+linked_3 = event 0 (LoadSlotGroup 0 0 0 0) ∷ linked_2
 
 abbrev pub linked_4 : Execution
 linked_4 = event 0 (LoadPhase 0 6) ∷ linked_3
@@ -207,7 +212,7 @@ abbrev pub merged_3 : Execution
 merged_3 = event 1 (StoreHeader 1 header.Size 1) ∷ merged_2
 
 abbrev pub rebuilt_1 : Execution
-rebuilt_1 = event 1 (Install (FirstSlot 0) 1 0 greatest_key) ∷ merged_3
+rebuilt_1 = event 1 (Install (FirstSlot 0 0) 1 0 greatest_key) ∷ merged_3
 
 abbrev pub rebuilt_2 : Execution
 rebuilt_2 = event 1 (Close 119 16) ∷ rebuilt_1

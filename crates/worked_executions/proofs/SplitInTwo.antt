@@ -2,6 +2,7 @@
 use Rattle.std.proofs.Common.{◌≡◌, ◌≢◌, ℕ, ◌≤◌, inl, inr, ⊎_elim, Some}
 use Rattle.std.proofs.Common.{None, Bool, true, false, [], ◌∷◌, cond, refl, sym, ◌∙◌, subst}
 use Rattle.std.proofs.Common.{arith, ◌⊎◌}
+use Rattle.std.specs.Prelude.{nat_le}
 use Rattle.worked_executions.proofs.Equations.{Same, SameOption}
 use mathlib.Core.Logic.{dite}
 use native.Mathlib.Decide.{ℕ_discrete}
@@ -10,11 +11,11 @@ use Rattle.index_machine.specs.Conditions.{Valid}
 use Rattle.index_machine.specs.Execution.{Execution, event}
 use Rattle.index_machine.specs.Groups.{phase, rebuild, unless_named}
 use Rattle.index_machine.specs.KeyRanges.{group_of, successor}
-use Rattle.index_machine.specs.Openings.{greatest_key, within}
+use Rattle.word_layout.specs.Parts.{greatest_key}
 use Rattle.index_machine.specs.Permissions.{IsGone}
 use Rattle.index_machine.specs.RebuildConditions.{IsSized, MayBegin}
 use Rattle.index_machine.specs.RebuildConditions.{MayInstall, MayOpen}
-use Rattle.index_machine.specs.Words.{limits, word}
+use Rattle.index_machine.specs.Words.{shape, word}
 use Rattle.index_machine.proofs.Ranges.{in_range}
 use Rattle.index_machine.specs.Rows.{InArray, role}
 use Rattle.word_layout.specs.Addresses.{array_address}
@@ -34,23 +35,27 @@ use Rattle.worked_executions.proofs.FourGroups.{not_0_in_1, not_3_in_1}
 use Rattle.worked_executions.proofs.FourGroups.{none_1, none_2, none_3}
 use Rattle.worked_executions.proofs.FourGroups.{opened_6}
 use Rattle.worked_executions.proofs.FourGroups.{is_keeper, no_insert}
-use Rattle.worked_executions.proofs.FourGroups.{first_slot_used, gone_if}
+use Rattle.worked_executions.proofs.FourGroups.{first_slot_used, caller_is, named_0, named_1}
+use Rattle.worked_executions.proofs.OneCaller.{gone_if}
 use Rattle.worked_executions.proofs.HeaderWrites.{IsFreeRow, written}
+use Rattle.worked_executions.proofs.OnePart.{in_whole, is_key}
 use Rattle.worked_executions.proofs.NewLanes.{behind_cuts, one_lane, two_lanes}
 use Rattle.worked_executions.proofs.TwoNewGroups.{ArePair, new_at, pair_opens}
 
 -- ---- the first rebuild ----
 
 gone1_frozen_0 : IsGone o 1 frozen_0
-gone1_frozen_0 = gone_if frozen_0 0 1 refl refl refl refl (λ e. omega (arith, e)) not_1_in_0
+gone1_frozen_0 = gone_if o caller_is frozen_0 1 (λ p. refl) (λ p w e. none_some e)
+    (named_0 1 (omega arith) (omega arith)) refl not_1_in_0
 
-free1_frozen_0 : IsFreeRow o 1 frozen_0
+free1_frozen_0 : IsFreeRow o 1 1 frozen_0
 free1_frozen_0 = record {
   valid = (
     record { keeper = refl; exists = omega arith; was = refl; chained = (0, refl) },
     tt,
     is_keeper,
   );
+  is_hand = is_keeper;
   keeper = refl;
   exists = omega arith;
   gone = gone1_frozen_0;
@@ -58,15 +63,17 @@ free1_frozen_0 = record {
   unplanned = λ k e. none_some e;
 }
 
-free1_cuts : IsFreeRow o 1 cuts_1
-free1_cuts = written o 1 (header.Cut 1) 3 lanes_1 (omega arith)
-    (written o 1 header.Lanes 2 step_1 tt (written o 1 header.Next 3 frozen_0 tt free1_frozen_0))
+free1_cuts : IsFreeRow o 1 1 cuts_1
+free1_cuts = written o 1 1 (header.Cut 1) 3 lanes_1 (omega arith)
+    (written o 1 1 header.Lanes 2 step_1 tt (written o 1 1 header.Next 3 frozen_0 tt free1_frozen_0))
 
 begins1 : MayBegin o cuts_1 1 1 0 4 1
 begins1 = record {
   keeper = refl;
   exists = omega arith;
-  ordered = (omega arith, omega arith);
+  ordered = omega arith;
+  in_part = (in_whole 0 (omega arith), in_whole 4 (omega arith));
+  first_in_part = refl;
   gone = free1_cuts.gone;
   settled = free1_cuts.settled;
   phase_word = refl;
@@ -77,22 +84,24 @@ begins1 = record {
   not_live = λ k p j h e. cc;
   no_target = λ a p y j h e. cc;
   unreached = λ b p j is m e. cc;
-  idle = λ k f e. none_1 (group_of o k step_1) f e;
+  idle = λ k f is e. none_1 (group_of o k step_1) f e;
   replaced = λ g e. absurd (none_1 g 1 e);
   no_old_target = λ a p y g k e at s. none_1 g 1 at;
 }
 
 gone2_2 : IsGone o 2 step_2
-gone2_2 = gone_if step_2 0 2 refl refl refl refl (λ e. omega (arith, e)) not_2_in_0
+gone2_2 = gone_if o caller_is step_2 2 (λ p. refl) (λ p w e. none_some e)
+    (named_0 2 (omega arith) (omega arith)) refl not_2_in_0
 
 not_2_yet : (k : ℕ) → successor k step_2 ≢ Some 2
-not_2_yet = at_key (λ a b w. SameOption (cond a (Some 1) None) (Some 2) → ⊥)
+not_2_yet = at_key (λ a b w v. SameOption (cond a (Some 1) None) (Some 2) → ⊥)
     (λ e. let bad : Same 1 2 = some_is e in omega (arith, bad)) (λ e. none_some e)
     (λ e. none_some e)
 
-free2_2 : IsFreeRow o 2 step_2
+free2_2 : IsFreeRow o 1 2 step_2
 free2_2 = record {
   valid = (begins1, free1_cuts.valid, is_keeper);
+  is_hand = is_keeper;
   keeper = refl;
   exists = omega arith;
   gone = gone2_2;
@@ -100,16 +109,18 @@ free2_2 = record {
   unplanned = not_2_yet;
 }
 
-free2_cuts : IsFreeRow o 2 cuts_2
-free2_cuts = written o 2 (header.Cut 1) 9 first_cut_2 (omega arith)
-    (written o 2 (header.Cut 0) 5 lanes_2 (omega arith)
-    (written o 2 header.Lanes 2 step_2 tt free2_2))
+free2_cuts : IsFreeRow o 1 2 cuts_2
+free2_cuts = written o 1 2 (header.Cut 1) 9 first_cut_2 (omega arith)
+    (written o 1 2 (header.Cut 0) 5 lanes_2 (omega arith)
+    (written o 1 2 header.Lanes 2 step_2 tt free2_2))
 
 begins2 : MayBegin o cuts_2 1 2 5 greatest_key 1
 begins2 = record {
   keeper = refl;
   exists = omega arith;
-  ordered = (omega arith, omega arith);
+  ordered = omega arith;
+  in_part = (in_whole 5 (omega arith), in_whole greatest_key (omega arith));
+  first_in_part = refl;
   gone = free2_cuts.gone;
   settled = free2_cuts.settled;
   phase_word = refl;
@@ -120,14 +131,14 @@ begins2 = record {
   not_live = λ k p j h e. cc;
   no_target = λ a p y j h e. cc;
   unreached = λ b p j is m e. cc;
-  idle = λ k f e. none_2 (group_of o k step_2) f e;
+  idle = λ k f is e. none_2 (group_of o k step_2) f e;
   replaced = λ g e. absurd (none_2 g 2 e);
   no_old_target = λ a p y g k e at s. none_2 g 2 at;
 }
 
 -- group 0 answers for all keys at first
 all_keys : (k : ℕ) → group_of o k step_3 ≡ 0 → k ≤ greatest_key
-all_keys k e = (in_range 0 greatest_key k (at_key (λ a b w. Same (cond w 0 4) 0 → w ≡ true)
+all_keys k e = (in_range 0 greatest_key k (at_key (λ a b w v. Same (cond v 0 4) 0 → w ≡ true)
     (λ f. refl) (λ f. refl) (λ f. absurd (omega (arith, f))) k e)).1
 
 -- the groups that the first rebuild made
@@ -150,7 +161,7 @@ pair_1 = record {
 }
 
 opens0 : MayOpen o step_3 1 0 1
-opens0 = pair_opens step_3 1 2 new_1 pair_1 0 refl (no_insert step_3 0 refl (λ f. refl)) none_3
+opens0 = pair_opens step_3 1 2 new_1 pair_1 0 (omega arith) refl (no_insert step_3 0 refl (λ f. refl)) none_3
     all_keys
 
 whole_1 : (w v : Bool) → Same (cond w 0 4) (cond v 0 4) → w ≡ v
@@ -164,22 +175,23 @@ pub sized_empty : (t : Execution) (g : ℕ) → ((i k : ℕ) → role o i t ≢ 
     word o t (Header g header.Size) ≡ 0 → word o t (Header g header.LineError) ≡ 0 → IsSized o g t
 sized_empty t g none size error = record {
   keys = [];
-  array = λ k. none (array_address (limits o) g 0) k;
+  array = λ k. none (array_address (shape o) g 0) k;
   size = size;
   error = error;
 }
 
-installs_1 : MayInstall o step_4 1 (FirstSlot 0) 1 0 greatest_key
+installs_1 : MayInstall o step_4 1 (FirstSlot 0 0) 1 0 greatest_key
 installs_1 = record {
   keeper = refl;
+  in_part = (in_whole 0 (omega arith), in_whole greatest_key (omega arith));
   leads = (refl, first_slot_used);
   first = (refl, refl);
   named = refl;
   starts = refl;
   ends = λ h e. let two : Same 2 h = some_is e in
       inl (refl, subst (λ (y : ℕ). word o step_4 (Header y header.Next) ≡ 0) two refl);
-  whole = λ j k e. whole_1 (within 0 j greatest_key) (within 0 k greatest_key) e;
-  all_old = λ j k f is at. at_key (λ a b w. phase (cond w 0 4) step_4 ≡ Opened f → w ≡ true)
+  whole = λ j k e. sym (is_key j) ∙ (whole_1 (nat_le j greatest_key) (nat_le k greatest_key) e ∙ is_key k);
+  all_old = λ j k f is at. at_key (λ a b w v. phase (cond v 0 4) step_4 ≡ Opened f → w ≡ true)
       (λ e. refl) (λ e. refl) (λ e. absurd (open_not e)) k;
   sized = λ k h is new. ⊎_elim
       (λ (x : Same 1 h × (k ≤ 4)). subst (λ (y : ℕ). IsSized o y step_4) x.0
@@ -188,10 +200,10 @@ installs_1 = record {
       (sized_empty step_4 2 (λ i j e. cc) refl refl))
       (new_at step_3 1 2 new_1 pair_1 k h new);
   all_new = λ j k f g h is new made next too. at_key
-      (λ a b w. SameOption (new_1 a b) (Some h) → w ≡ true)
+      (λ a b w v. SameOption (new_1 a b) (Some h) → w ≡ true)
       (λ e. refl) (λ e. refl) (λ e. none_some e) k next;
-  opened = at_key (λ a b w. w ≡ true →
-      (f : ℕ) × (h : ℕ) × (phase (cond w 0 4) step_4 ≡ Opened f) × SameOption (new_1 a b) (Some h)
+  opened = at_key (λ a b w v. w ≡ true →
+      (f : ℕ) × (h : ℕ) × (phase (cond v 0 4) step_4 ≡ Opened f) × SameOption (new_1 a b) (Some h)
       × SameOption (rebuild h step_4) (Some f) × (phase h step_4 ≡ Open))
       (λ e. (1, 1, refl, refl, refl, refl)) (λ e. (1, 2, refl, refl, refl, refl))
       (λ e. not_so e);
@@ -208,20 +220,22 @@ valid_5 = (
 -- ---- the row that is free behind it ----
 
 gone3_frozen_1 : IsGone o 3 frozen_1
-gone3_frozen_1 = gone_if frozen_1 1 3 refl refl refl refl (λ e. omega (arith, e)) not_3_in_1
+gone3_frozen_1 = gone_if o caller_is frozen_1 3 (λ p. refl) (λ p w e. none_some e)
+    (named_1 3 (λ e. omega (arith, e)) (omega arith)) refl not_3_in_1
 
 not_3_yet : (k : ℕ) → successor k frozen_1 ≢ Some 3
-not_3_yet = at_key (λ a b w. SameOption (new_1 a b) (Some 3) → ⊥)
+not_3_yet = at_key (λ a b w v. SameOption (new_1 a b) (Some 3) → ⊥)
     (λ e. let bad : Same 1 3 = some_is e in omega (arith, bad))
     (λ e. let bad : Same 2 3 = some_is e in omega (arith, bad)) (λ e. none_some e)
 
-free3_frozen_1 : IsFreeRow o 3 frozen_1
+free3_frozen_1 : IsFreeRow o 1 3 frozen_1
 free3_frozen_1 = record {
   valid = (
     record { keeper = refl; exists = omega arith; was = refl; chained = (0, refl) },
     valid_5,
     is_keeper,
   );
+  is_hand = is_keeper;
   keeper = refl;
   exists = omega arith;
   gone = gone3_frozen_1;
@@ -236,15 +250,17 @@ linked_3 next = event 1 (StoreHeader 3 header.Next next) ∷ frozen_1
 abbrev pub laned_3 : ℕ → Execution
 laned_3 next = event 1 (StoreHeader 3 header.Lanes 1) ∷ linked_3 next
 
-free3 : (next : ℕ) → IsFreeRow o 3 (laned_3 next)
-free3 next = written o 3 header.Lanes 1 (linked_3 next) tt
-    (written o 3 header.Next next frozen_1 tt free3_frozen_1)
+free3 : (next : ℕ) → IsFreeRow o 1 3 (laned_3 next)
+free3 next = written o 1 3 header.Lanes 1 (linked_3 next) tt
+    (written o 1 3 header.Next next frozen_1 tt free3_frozen_1)
 
 begins3 : (next : ℕ) → MayBegin o (laned_3 next) 1 3 0 4 3
 begins3 next = record {
   keeper = refl;
   exists = omega arith;
-  ordered = (omega arith, omega arith);
+  ordered = omega arith;
+  in_part = (in_whole 0 (omega arith), in_whole 4 (omega arith));
+  first_in_part = refl;
   gone = (free3 next).gone;
   settled = (free3 next).settled;
   phase_word = refl;
@@ -254,7 +270,7 @@ begins3 next = record {
   not_live = λ k p j h e. cc;
   no_target = λ a p y j h e. cc;
   unreached = λ b p j is m e. cc;
-  idle = λ k f e. not_0_in_1 k (sym (opened_6 (group_of o k (laned_3 next)) f e).0);
+  idle = λ k f is e. not_0_in_1 k (sym (opened_6 (group_of o k (laned_3 next)) f e).0);
   replaced = λ g e. let bad = (opened_6 g 3 e).1 in absurd (omega (arith, bad));
   no_old_target = λ a p y g k e at s. let bad = (opened_6 g 3 at).1 in omega (arith, bad);
 }

@@ -7,7 +7,8 @@ use Rattle.index_machine.proofs.Ranges.{in_range, range_in}
 use Rattle.index_machine.specs.Execution.{Execution}
 use Rattle.index_machine.specs.Groups.{phase, rebuild}
 use Rattle.index_machine.specs.KeyRanges.{group_of, successor}
-use Rattle.index_machine.specs.Openings.{greatest_key, within}
+use Rattle.word_layout.specs.Parts.{greatest_key}
+use Rattle.index_machine.specs.Openings.{within}
 use Rattle.index_machine.specs.Permissions.{MayInsertInto}
 use Rattle.index_machine.specs.RebuildConditions.{AreChained, HasNewGroup, IsBehindFirst}
 use Rattle.index_machine.specs.RebuildConditions.{IsNextWord, MayOpen}
@@ -16,6 +17,8 @@ use Rattle.index_machine.specs.Words.{word}
 use Rattle.word_layout.specs.Words.{Header}
 use Rattle.word_layout.specs.declared.headers.HeaderWord.TheVariants as header
 use Rattle.word_layout.specs.declared.phase.Phase.TheVariants.{Frozen, Open, Opened}
+use Rattle.worked_executions.proofs.Equations.{Same}
+use Rattle.std.proofs.Common.{◌/◌}
 use Rattle.worked_executions.proofs.FourGroups.{o, at_key, is_high, is_low}
 
 -- the new groups of the rebuild that the first of them names, by the ranges of a key
@@ -35,16 +38,16 @@ pub record ArePair (t : Execution) (low high : ℕ) (new : Bool → Bool → Opt
 module _ (t : Execution) (low high : ℕ) (new : Bool → Bool → Option ℕ)
     (pair : ArePair t low high new) where
   new_low : (k : ℕ) → k ≤ 4 → successor k t ≡ Some low
-  new_low k le = pair.is k ∙ at_key (λ a b w. a ≡ true → new a b ≡ Some low)
+  new_low k le = pair.is k ∙ at_key (λ a b w v. a ≡ true → new a b ≡ Some low)
       (λ e. pair.of_keys.0) (λ e. not_so e) (λ e. not_so e) k (is_low k le)
 
   new_high : (k : ℕ) → 4 < k → k ≤ greatest_key → successor k t ≡ Some high
-  new_high k lt le = pair.is k ∙ at_key (λ a b w. w ≡ true → a ≡ false → new a b ≡ Some high)
+  new_high k lt le = pair.is k ∙ at_key (λ a b w v. w ≡ true → a ≡ false → new a b ≡ Some high)
       (λ e f. not_so (sym f)) (λ e f. pair.of_keys.1) (λ e f. not_so e) k
       (range_in 0 greatest_key k (omega arith) le) (is_high k lt)
 
   new_key : (k h : ℕ) → successor k t ≡ Some h → k ≤ greatest_key
-  new_key k h e = (in_range 0 greatest_key k (at_key (λ a b w. new a b ≡ Some h → w ≡ true)
+  new_key k h e = (in_range 0 greatest_key k (at_key (λ a b w v. new a b ≡ Some h → w ≡ true)
       (λ f. refl) (λ f. refl) (λ f. none_some (sym pair.of_keys.2 ∙ f)) k (sym (pair.is k) ∙ e))).1
 
   pub new_at : (k h : ℕ) → successor k t ≡ Some h →
@@ -88,11 +91,11 @@ module _ (t : Execution) (low high : ℕ) (new : Bool → Bool → Option ℕ)
       )
 
   pair_ends : (k h : ℕ) → successor k t ≡ Some h → rebuild h t ≡ Some low →
-      (HasNewGroup low (k + 1) t → ⊥) → IsNextWord o t k (word o t (Header h header.Next))
+      (HasNewGroup low (k + 1) t → ⊥) → IsNextWord o t 0 k (word o t (Header h header.Next))
   pair_ends k h is made none = go (nat_lt k greatest_key) refl
     where
       go : (w : Bool) → nat_lt k greatest_key ≡ w →
-          IsNextWord o t k (word o t (Header h header.Next))
+          IsNextWord o t 0 k (word o t (Header h header.Next))
       go true e = let more : k < greatest_key = ltb-true k greatest_key e in
           absurd (none (pair_planned (k + 1) (omega (arith, more))))
       go false e = let top : greatest_key ≤ k = ltb-false k greatest_key e in
@@ -105,11 +108,11 @@ module _ (t : Execution) (low high : ℕ) (new : Bool → Bool → Option ℕ)
           (new_at k h is)
 
   -- a frozen group is opened to the rebuild, where nothing else is opened
-  pub pair_opens : (g : ℕ) → phase g t ≡ Frozen →
+  pub pair_opens : (g : ℕ) → g < 4 → phase g t ≡ Frozen →
       ((c : ℕ) → IsCaller o c → MayInsertInto c g t → ⊥) → ((h f : ℕ) → phase h t ≢ Opened f) →
       ((k : ℕ) → group_of o k t ≡ g → k ≤ greatest_key) → MayOpen o t 1 g low
-  pair_opens g frozen closed idle keys = record {
-    keeper = refl;
+  pair_opens g exists frozen closed idle keys = record {
+    keeper = ap (λ (p : ℕ). 1 + p) whole;
     frozen = frozen;
     closed = closed;
     named = pair.first.0;
@@ -121,8 +124,13 @@ module _ (t : Execution) (low high : ℕ) (new : Bool → Bool → Option ℕ)
     planned = λ k e. pair_planned k (keys k e);
     behind = λ k e. pair_behind k (keys k e);
     chained = pair_chained;
-    ends = pair_ends;
+    ends = λ k h is made none. subst
+        (λ (p : ℕ). IsNextWord o t p k (word o t (Header h header.Next))) whole
+        (pair_ends k h is made none);
     siblings = λ h e. absurd (idle h low e);
-    only = λ h f e. absurd (idle h f e);
+    only = λ h f is e. absurd (idle h f e);
     past = λ h f e from. absurd (idle h f e);
   }
+    where
+      whole : Same 0 (g / 4)
+      whole = omega arith

@@ -1,6 +1,6 @@
 -- A whole rebuild, with callers' steps in between, is valid, to its end with a row and a group row
 -- used again.
-use Rattle.std.proofs.Common.{◌≡◌, ℕ, ◌≤◌, inl, Some, None, Bool, true, false, [], cond, refl}
+use Rattle.std.proofs.Common.{◌≡◌, ℕ, ◌≤◌, inl, inr, Some, None, Bool, true, false, [], cond, refl}
 use Rattle.std.proofs.Common.{sym, ◌∙◌, subst, arith}
 use Rattle.std.specs.Prelude.{◌==◌}
 use Rattle.index_machine.proofs.Executions.{choice-other}
@@ -11,7 +11,8 @@ use Rattle.index_machine.specs.Groups.{name_used_again, phase}
 use Rattle.index_machine.specs.KeyRanges.{group_of}
 use Rattle.index_machine.specs.ObservedHeads.{IsObservedRow, IsUnobserved, NoHead, Observes}
 use Rattle.index_machine.specs.ObservedHeads.{observed_head}
-use Rattle.index_machine.specs.Openings.{greatest_key, within}
+use Rattle.word_layout.specs.Parts.{greatest_key}
+use Rattle.index_machine.specs.Openings.{within}
 use Rattle.index_machine.specs.Permissions.{IsGone}
 use Rattle.index_machine.specs.Reaching.{reached}
 use Rattle.index_machine.specs.RebuildConditions.{MayBegin}
@@ -25,10 +26,13 @@ use Rattle.word_layout.specs.declared.headers.HeaderWord.TheVariants as header
 use Rattle.word_layout.specs.declared.phase.Phase.TheVariants.{Frozen, Open, Opened}
 use Rattle.worked_executions.proofs.Equations.{Same, SameOption}
 use Rattle.worked_executions.proofs.HeaderWrites.{IsFreeRow, written}
-use Rattle.worked_executions.proofs.MergedWitness.{gone0_rebuilt_1, gone0_rebuilt_5, nobody_in}
-use Rattle.worked_executions.proofs.MergedWitness.{old_is_0, replaced0, slot_used, valid_rebuilt_5}
+use Rattle.worked_executions.proofs.MergedWitness.{gone0_rebuilt_1, gone0_rebuilt_5, other_slot}
+use Rattle.worked_executions.proofs.MergedWitness.{old_is_0, replaced0, valid_rebuilt_5}
+use Rattle.worked_executions.proofs.OnePart.{in_whole}
 use Rattle.worked_executions.proofs.NewLanes.{no_opening_cut, two_lanes}
+use Rattle.worked_executions.proofs.OneCaller.{nobody_in, unnamed_if}
 use Rattle.worked_executions.proofs.PutWitness.{caller_is, is_caller, is_hand0, is_hand1, no_insert}
+use Rattle.worked_executions.proofs.OneCaller.{nobody_in, unnamed_if}
 use Rattle.worked_executions.proofs.PutWitness.{reading}
 use Rattle.worked_executions.proofs.SmallForms.{again_role, given_role, no_lock_rebuilt}
 use Rattle.worked_executions.proofs.SmallForms.{no_redirect_rebuilt}
@@ -53,7 +57,7 @@ unreached_by_all t p none c is r = not_so (sym none
 
 retires_it : MayRetire o rebuilt_5 1 119 0
 retires_it = record {
-  keeper = refl;
+  keeper = (0, 5, inr refl, refl);
   found_word = refl;
   not_live = λ k e. live_new (5 == k) (9 == k) e;
   no_target = λ a y e. no_redirect_rebuilt (119 == a) (123 == a) (87 == a) 119 y e;
@@ -67,7 +71,7 @@ unobserved_by_all t p none c is seen = subst (IsObservedRow p) none
 
 pushes_it : MayPush o 1 119 0 rebuilt_7
 pushes_it = record {
-  keeper = refl;
+  keeper = omega arith;
   held = refl;
   head_word = refl;
   link = refl;
@@ -164,13 +168,14 @@ unplanned false e = none_some e
 gone0_again_1 : IsGone o 0 again_1
 gone0_again_1 = record {
   unowned = gone0_rebuilt_1.unowned;
-  unnamed = slot_used again_1 refl refl refl;
-  empty = nobody_in again_1 0 refl;
+  unnamed = unnamed_if o caller_is again_1 0 (λ p. refl) (λ p w e. none_some e) other_slot;
+  empty = nobody_in o caller_is again_1 0 refl;
 }
 
-free0_again_1 : IsFreeRow o 0 again_1
+free0_again_1 : IsFreeRow o 1 0 again_1
 free0_again_1 = record {
   valid = valid_again_1;
+  is_hand = is_hand1;
   keeper = refl;
   exists = omega arith;
   gone = gone0_again_1;
@@ -178,28 +183,30 @@ free0_again_1 = record {
   unplanned = λ k e. unplanned (within 0 k greatest_key) e;
 }
 
-free0_again_3 : IsFreeRow o 0 again_3
-free0_again_3 = written o 0 (header.Head 0) 0 again_2 (omega arith)
-    (written o 0 header.Phase 0 again_1 tt free0_again_1)
+free0_again_3 : IsFreeRow o 1 0 again_3
+free0_again_3 = written o 1 0 (header.Head 0) 0 again_2 (omega arith)
+    (written o 1 0 header.Phase 0 again_1 tt free0_again_1)
 
-free0_again_5 : IsFreeRow o 0 again_5
-free0_again_5 = written o 0 (header.Cut 1) 9 again_4 (omega arith)
-    (written o 0 header.Lanes 2 again_3 tt free0_again_3)
+free0_again_5 : IsFreeRow o 1 0 again_5
+free0_again_5 = written o 1 0 (header.Cut 1) 9 again_4 (omega arith)
+    (written o 1 0 header.Lanes 2 again_3 tt free0_again_3)
 
 -- the head of the one lane that had a row is cleared, and there is no third lane
 cleared : (w : Bool) → Same (cond w 0 (cond w 119 0)) 0
 cleared true = refl
 cleared false = refl
 
-two_cuts : (i : ℕ) → 2 ≤ i → Same (cond (1 == i) 9 (opening_cut [] i)) 0
-two_cuts i from = choice-other 1 i 9 (opening_cut [] i) (λ e. omega (arith, from, e))
+two_cuts : (i : ℕ) → 2 ≤ i → Same (cond (1 == i) 9 (opening_cut 0 [] i)) 0
+two_cuts i from = choice-other 1 i 9 (opening_cut 0 [] i) (λ e. omega (arith, from, e))
     ∙ no_opening_cut i (omega (arith, from))
 
 begins_again : MayBegin o again_5 1 0 0 greatest_key 0
 begins_again = record {
   keeper = refl;
   exists = omega arith;
-  ordered = (omega arith, omega arith);
+  ordered = omega arith;
+  in_part = (in_whole 0 (omega arith), in_whole greatest_key (omega arith));
+  first_in_part = refl;
   gone = free0_again_5.gone;
   settled = free0_again_5.settled;
   phase_word = refl;
@@ -210,7 +217,7 @@ begins_again = record {
   not_live = λ k p j h e. array_again (119 == p) (123 == p) (87 == p) j e;
   no_target = λ a p y j h e. array_again (119 == p) (123 == p) (87 == p) j e;
   unreached = λ b p j is m e. array_again (119 == p) (123 == p) (87 == p) j e;
-  idle = λ k f e. gone0_again_1.unowned k (sym (opened_at (group_of o k again_1) f e).0);
+  idle = λ k f is e. gone0_again_1.unowned k (sym (opened_at (group_of o k again_1) f e).0);
   replaced = λ g e. not_named g e;
   no_old_target = λ a p y g k e at s. not_named g at;
 }

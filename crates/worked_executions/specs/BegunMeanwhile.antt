@@ -7,8 +7,9 @@ use Rattle.index_machine.specs.declared.events.Action.TheVariants.{Freeze, NewGr
 use Rattle.index_machine.specs.declared.events.Action.TheVariants.{StoreOpened}
 use Rattle.index_machine.specs.declared.opening.Opening.{Opening}
 use Rattle.index_machine.specs.Execution.{Execution, event}
-use Rattle.index_machine.specs.Words.{limits}
-use Rattle.index_machine.specs.Openings.{greatest_key}
+use Rattle.word_layout.specs.Shape.{in_one_part}
+use Rattle.index_machine.specs.Words.{shape}
+use Rattle.word_layout.specs.Parts.{greatest_key}
 use Rattle.index_machine.specs.Conditions.{Valid}
 use Rattle.worked_executions.specs.NameUsedAgain.{four_groups, split_in_two}
 
@@ -34,6 +35,6 @@ opened_in_part =
 -- nothing would say what the caller finds there
 abbrev pub NoGroupIsBegunMeanwhile : Type 0
 NoGroupIsBegunMeanwhile =
-    (o : Opening) × (limits o ≡ four_groups) × (o.rows ≡ []) × Valid o opened_in_part
+    (o : Opening) × (shape o ≡ in_one_part four_groups) × (o.rows ≡ []) × Valid o opened_in_part
     × ((hand group low high first : ℕ) →
     Valid o (event hand (NewGroup group low high first) ∷ opened_in_part) → ⊥)

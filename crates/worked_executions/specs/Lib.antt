@@ -1,3 +1,4 @@
 pub mod Witness
 pub mod NameUsedAgain
 pub mod BegunMeanwhile
+pub mod TwoParts

@@ -11,8 +11,9 @@ use Rattle.index_machine.specs.declared.events.Action.TheVariants.{StoreOpened, 
 use Rattle.index_machine.specs.declared.events.InstallWord.TheVariants.{FirstSlot}
 use Rattle.index_machine.specs.declared.opening.Opening.{Opening}
 use Rattle.index_machine.specs.Execution.{Execution, event}
-use Rattle.index_machine.specs.Words.{limits}
-use Rattle.index_machine.specs.Openings.{greatest_key}
+use Rattle.word_layout.specs.Shape.{in_one_part}
+use Rattle.index_machine.specs.Words.{shape}
+use Rattle.word_layout.specs.Parts.{greatest_key}
 use Rattle.index_machine.specs.Conditions.{Valid}
 
 -- the limits of a table with four groups
@@ -33,7 +34,7 @@ four_groups =
 -- the rebuild named 1 makes two groups of group 0: their lanes begin at 0 and 3, and at 5 and 9
 abbrev pub split_in_two : Execution
 split_in_two =
-    event 1 (Install (FirstSlot 0) 1 0 greatest_key)
+    event 1 (Install (FirstSlot 0 0) 1 0 greatest_key)
     ∷ event 1 (StoreOpened 0 1)
     ∷ event 1 (NewGroup 2 5 greatest_key 1)
     ∷ event 1 (StoreHeader 2 (header.Cut 1) 9)
@@ -49,7 +50,7 @@ split_in_two =
 -- the rebuild named 3 makes a group of group 1, whose row is free then
 abbrev pub first_row_free : Execution
 first_row_free =
-    event 1 (Install (FirstSlot 0) 3 0 4)
+    event 1 (Install (FirstSlot 0 0) 3 0 4)
     ∷ event 1 (StoreOpened 1 3)
     ∷ event 1 (NewGroup 3 0 4 3)
     ∷ event 1 (StoreHeader 3 header.Lanes 1)
@@ -74,4 +75,4 @@ named_again =
 -- on some table with these limits, opened without rows, this is valid
 abbrev pub NamesAreUsedAgain : Type 0
 NamesAreUsedAgain =
-    (o : Opening) × (limits o ≡ four_groups) × (o.rows ≡ []) × Valid o named_again
+    (o : Opening) × (shape o ≡ in_one_part four_groups) × (o.rows ≡ []) × Valid o named_again

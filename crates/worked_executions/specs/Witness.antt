@@ -26,8 +26,9 @@ use Rattle.word_layout.specs.declared.headers.HeaderWord.TheVariants as header
 use Rattle.index_machine.specs.declared.events.InstallWord.TheVariants.{FirstSlot}
 use Rattle.index_machine.specs.declared.opening.Opening.{Opening}
 use Rattle.index_machine.specs.Execution.{Execution, event}
-use Rattle.index_machine.specs.Words.{limits}
-use Rattle.index_machine.specs.Openings.{greatest_key}
+use Rattle.word_layout.specs.Shape.{in_one_part}
+use Rattle.index_machine.specs.Words.{shape}
+use Rattle.word_layout.specs.Parts.{greatest_key}
 use Rattle.index_machine.specs.Conditions.{Valid}
 
 -- the limits of a small table
@@ -57,8 +58,8 @@ with_a_record =
     ∷ event 0 (LoadFreeLink 119 123)
     ∷ event 0 (LoadFree 119)
     ∷ event 0 (LoadPhase 0 0)
-    ∷ event 0 (LoadSlotGroup 0 0 0)
-    ∷ event 0 (LoadRoot 2)
+    ∷ event 0 (LoadSlotGroup 0 0 0 0)
+    ∷ event 0 (LoadRoot 0 2)
     ∷ event 0 (Enter 1)
     ∷ []
 
@@ -83,8 +84,8 @@ changed_meanwhile =
     ∷ event 0 (LoadState 119 0)
     ∷ event 0 (LoadHead 0 0 119)
     ∷ event 0 (LoadPhase 0 6)
-    ∷ event 0 (LoadSlotGroup 0 0 0)
-    ∷ event 0 (LoadRoot 2)
+    ∷ event 0 (LoadSlotGroup 0 0 0 0)
+    ∷ event 0 (LoadRoot 0 2)
     ∷ event 0 (Enter 3)
     ∷ opened_to_group_1
 
@@ -104,8 +105,8 @@ linked_meanwhile =
     ∷ event 0 (LoadHeader 1 (header.Cut 1) 6)
     ∷ event 0 (LoadHeader 1 header.Lanes 2)
     ∷ event 0 (LoadPhase 0 6)
-    ∷ event 0 (LoadSlotGroup 0 0 0)
-    ∷ event 0 (LoadRoot 2)
+    ∷ event 0 (LoadSlotGroup 0 0 0 0)
+    ∷ event 0 (LoadRoot 0 2)
     ∷ event 0 (Enter 5)
     ∷ changed_meanwhile
 
@@ -119,7 +120,7 @@ rebuilt =
     ∷ event 1 (StoreDirect 87 119 5 false 0)
     ∷ event 1 (Copy 87 8)
     ∷ event 1 (Close 119 16)
-    ∷ event 1 (Install (FirstSlot 0) 1 0 greatest_key)
+    ∷ event 1 (Install (FirstSlot 0 0) 1 0 greatest_key)
     ∷ event 1 (StoreHeader 1 header.Size 1)
     ∷ event 1 (StoreRedirect 1 87 5 119)
     ∷ event 1 (StoreArray 1 87 Key 5)
@@ -151,4 +152,4 @@ whole_rebuild =
 -- conditions can be met together
 abbrev pub WholeRebuildIsValid : Type 0
 WholeRebuildIsValid =
-    (o : Opening) × (limits o ≡ small_limits) × (o.rows ≡ []) × Valid o whole_rebuild
+    (o : Opening) × (shape o ≡ in_one_part small_limits) × (o.rows ≡ []) × Valid o whole_rebuild

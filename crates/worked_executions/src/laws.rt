@@ -1,6 +1,7 @@
 //! Executions that are valid. Each function is a law and does nothing.
 ghost use Rattle.worked_executions.specs.BegunMeanwhile.{NoGroupIsBegunMeanwhile};
 ghost use Rattle.worked_executions.specs.NameUsedAgain.{NamesAreUsedAgain};
+ghost use Rattle.worked_executions.specs.TwoParts.{TwoPartsAreRebuiltAtOnce};
 ghost use Rattle.worked_executions.specs.Witness.{WholeRebuildIsValid};
 
 /// A whole rebuild, with callers' steps in between, is a valid execution, to its end with a row and
@@ -18,4 +19,9 @@ pub fn names_are_used_again()
 /// Each step up to the opening of one of two groups is allowed, and then no group is begun anew.
 pub fn no_group_is_begun_meanwhile()
     ensures { NoGroupIsBegunMeanwhile }
+{}
+
+/// The keepers of two parts are at different stages of a rebuild at once, and both install.
+pub fn two_parts_are_rebuilt_at_once()
+    ensures { TwoPartsAreRebuiltAtOnce }
 {}

@@ -5,7 +5,8 @@ use Rattle.std.specs.List.{list_all}
 use Rattle.std.proofs.lemmas.Bool.{cases_order, le-leb}
 use Rattle.std.proofs.lemmas.Bool.Decides.{nat_tests}
 use Rattle.word_layout.specs.declared.limits.Limits.{Limits}
-use Rattle.word_layout.specs.Limits.{IsFirstBroken, KeepsRules, is_within, rules, word_count}
+use Rattle.word_layout.specs.Limits.{IsFirstBroken, KeepsRules, is_within, rules_in, word_count}
+use Rattle.word_layout.specs.Shape.{in_one_part}
 
 -- a test cannot both pass and fail
 clash : (tests : List Bool) (k : ℕ) → slice_index_or tests k true ≡ false → slice_index_or tests k false ≡ true → ⊥
@@ -18,9 +19,9 @@ pub one_first : (l : Limits) (one other : ℕ) → IsFirstBroken l one → IsFir
 one_first l one other first second = elim (cases_order one other) [
   | inl same ↦ same
   | inr order ↦ elim order [
-    | inl below ↦ absurd (clash (rules l) (one - 1) first.broken
+    | inl below ↦ absurd (clash (rules_in (in_one_part l)) (one - 1) first.broken
         (second.kept_before (one - 1) (omega (arith, first.counted))))
-    | inr above ↦ absurd (clash (rules l) (other - 1) second.broken
+    | inr above ↦ absurd (clash (rules_in (in_one_part l)) (other - 1) second.broken
         (first.kept_before (other - 1) (omega (arith, second.counted))))
   ]
 ]
@@ -38,7 +39,7 @@ within least value most low high = grind (arith, nat_tests)
 
 -- limits that keep the rules break none
 pub none_broken : (l : Limits) (number : ℕ) → KeepsRules l → IsFirstBroken l number → ⊥
-none_broken l number kept first = some_fails (rules l) (number - 1) first.broken (rw (
+none_broken l number kept first = some_fails (rules_in (in_one_part l)) (number - 1) first.broken (rw (
   within 1 l.callers 64 kept.least_callers kept.most_callers,
   within 2 l.records 16777216 kept.least_records kept.most_records,
   within 2 l.groups 65536 kept.least_groups kept.most_groups,
@@ -48,5 +49,5 @@ none_broken l number kept first = some_fails (rules l) (number - 1) first.broken
   within 1 l.help 1048576 kept.least_help kept.most_help,
   within 1 l.chain 4096 kept.least_chain kept.most_chain,
   le-leb l.first_version 1152921504606846975 kept.most_first_version,
-  le-leb (word_count l) 268435456 kept.most_words,
+  le-leb (word_count (in_one_part l)) 268435456 kept.most_words,
 ))

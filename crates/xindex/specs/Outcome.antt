@@ -3,7 +3,11 @@ use Rattle.std.specs.Prelude.{◌≡◌, ◌≢◌, ◌++◌, ℕ, List, [], Mat
 use Rattle.line_session.specs.declared.ends.Ended.{Ended}
 use Rattle.line_session.specs.declared.ends.Ended.TheVariants as ended
 use Rattle.line_session.specs.Ends.{EndsState}
+use Rattle.line_session.specs.Enough.{HasNoRefusal}
 use Rattle.line_session.specs.Served.{Serves}
+use Rattle.line_session.specs.Session.{Session}
+use Rattle.wire_commands.specs.declared.request.Request.{Request}
+use Rattle.wire_commands.specs.declared.reply.Reply.{Reply}
 use Rattle.command_line.specs.declared.answers.Command.{Command}
 use Rattle.command_line.specs.declared.answers.Mode.{Mode}
 use Rattle.command_line.specs.declared.answers.Mode.TheVariants.{Pipe, Run, Gen}
@@ -12,6 +16,7 @@ use Rattle.word_layout.specs.declared.limits.Limits.{Limits}
 use Rattle.word_layout.specs.Limits.{IsFirstBroken}
 use Rattle.xindex_core.specs.declared.index.Opened.{Opened}
 use Rattle.xindex_core.specs.Alone.{AnswersAlone}
+use Rattle.caller_phases.specs.Enough.{HasEnough}
 use Rattle.xindex.specs.declared.outcome.Outcome.{Outcome}
 use Rattle.xindex.specs.Generated.{Generates}
 use Rattle.xindex.specs.Ran.{Runs}
@@ -74,13 +79,17 @@ pub record LacksMemory (mode : Mode) (ends_old ends_new : EndsState) : Type 0 wh
   pub unread : mode ≢ Run → ends_new.left ≡ ends_old.left
 
 -- one session was served by pass 0 over the index, which was opened empty with these limits: its log
--- tells it, and nobody else changed the index; this is the status of its end
+-- tells it, and nobody else changed the index; this is the status of its end. This session, and any other that
+-- the log tells, was refused no request where there is enough for all of them
 pub record Pipes (l : Limits) (most : ℕ) (ends_old ends_new : EndsState) (status : Status)
     (opened : Opened) : Type 0 where
   pub ended : Ended
   pub status_is : status ≡ status_of ended
   pub index : IsServed l opened
   pub served : Serves (AnswersAlone l) [] (first_log opened) ends_old ends_new most ended
+  pub complete : (requests : List Request) (replies : List Reply) →
+      Session (AnswersAlone l) [] requests replies (first_log opened) →
+      HasEnough l requests → HasNoRefusal replies
 
 -- the program served a session, or there was no memory for an index
 abbrev pub PipesOrLacksMemory : Limits → ℕ → EndsState → EndsState → Outcome → Type 0

@@ -10,6 +10,7 @@ use Rattle.line_session.specs.Texts.{TakesPart, TakesText}
 use Rattle.trace_text.specs.declared.lines.Line.{Line}
 use Rattle.trace_text.specs.Traces.{HasFirstBad, IsTrace}
 use Rattle.trace_text.specs.Transcripts.{rows_text}
+use Rattle.caller_phases.specs.Calls.{all_calls}
 use Rattle.caller_phases.specs.Enough.{HasEnough, HaveNoRefusal}
 use Rattle.caller_phases.specs.Explained.{IsExplainedBy}
 use Rattle.xindex.specs.Telling.{Tells}
@@ -23,7 +24,7 @@ pub record IsRun (l : Limits) (told : List Line) (text : List ℕ) (rows : Map) 
   pub logs : List Log
   pub explained : IsExplainedBy l [] told history logs text
   pub left : rows ≡ after [] history
-  pub complete : HasEnough l told → HaveNoRefusal explained.replies
+  pub complete : HasEnough l (all_calls told) → HaveNoRefusal explained.replies
 
 -- the text of all phases of the trace, and behind it the rows that are left
 pub record IsTranscript (l : Limits) (told : List Line) (text : List ℕ) : Type 0 where

@@ -8,7 +8,7 @@ use Rattle.index_machine.specs.Openings.{opening_map}
 use Rattle.xindex_core.specs.declared.index.Index.{Index}
 use Rattle.xindex_core.specs.declared.index.Opened.{Opened}
 use Rattle.xindex_core.specs.declared.pass.Pass.{Pass}
-use Rattle.xindex_core.specs.Passes.{IsKeeperOf, IsPassOf, known_to, limits_of_index}
+use Rattle.xindex_core.specs.Passes.{IsKeeperOf, IsPassOf, bounds_of_index, known_to, limits_of_index}
 use Rattle.xindex_core.specs.Passes.{log_of, number_of, opening_with}
 
 -- the log of the first pass
@@ -44,10 +44,11 @@ HasServed i [] = ⊥
 HasServed i (p ∷ ps) =
     IsPassOf i p × (number_of p ≡ 0) × AreTold i (known_to p) 1 ps
 
--- an index that was opened empty with these limits, whose callers but caller 0 made no step: the log of
--- pass 0 has all its changes
+-- an index that was opened empty with these limits and one part, whose callers but caller 0 made no step: the log
+-- of pass 0 has all its changes
 pub record IsServed (l : Limits) (opened : Opened) : Type 0 where
   pub limits : limits_of_index opened.index ≡ l
+  pub parts : bounds_of_index opened.index ≡ []
   pub empty : opening_map (opening_with opened.index) ≡ []
   pub many : length opened.passes.items ≡ l.callers
   pub passes : HasServed opened.index opened.passes.items

@@ -1,5 +1,5 @@
--- All passes and the keeper are all hands of the table, and at the end nobody holds a version lock.
-use Rattle.std.proofs.Common.{◌≡◌, inl, inr, ⊎_elim, ℕ, zero, suc, ◌+◌, ◌<◌, ◌≤◌, ◌%◌, Bool}
+-- All passes and all keepers are all hands of the table, and at the end nobody holds a version lock.
+use Rattle.std.proofs.Common.{◌≡◌, inl, inr, ⊎_elim, ℕ, zero, suc, ◌+◌, ◌-◌, ◌++◌, ◌<◌, ◌≤◌, ◌%◌, Bool}
 use Rattle.std.proofs.Common.{true, false, ◌==◌, cond, Some, List, [], ◌∷◌, length, slice_get, refl, sym}
 use Rattle.std.proofs.Common.{ap, ◌∙◌, subst, arith, zero-add}
 use Rattle.std.proofs.Math.Logic.{∥∥₁_elim}
@@ -22,7 +22,8 @@ use Rattle.index_machine.specs.Lists.{In}
 use Rattle.index_machine.specs.LivePlaces.{history}
 use Rattle.index_machine.specs.Openings.{opening_map}
 use Rattle.index_machine.specs.RecordConditions.{HoldsNoLock}
-use Rattle.index_machine.specs.Sections.{IsCaller, IsKeeper, IsOutside, crossings}
+use Rattle.index_machine.specs.Sections.{IsCaller, IsOutside, crossings}
+use Rattle.index_machine.specs.Keepers.{IsKeeper, IsPartKeeper}
 use Rattle.index_machine.specs.Sections.{crossings_after}
 use Rattle.index_machine.specs.Words.{limits}
 use Rattle.index_machine.proofs.Executions.{crossings_on}
@@ -37,18 +38,20 @@ use Rattle.index_rule.specs.Ended.{AreAllHands, AreOutside, EndsFor, Leaves, num
 use Rattle.index_rule.specs.Hands.{IsHandOf, known, opening_of, view}
 use Rattle.index_rule.specs.Rule.{Follows}
 use Rattle.index_rule.proofs.Logging.{log_on}
-use Rattle.resting_table.specs.Resting.{LeaveAtRest, TellPairs}
+use Rattle.resting_table.specs.Resting.{LeaveAtRest}
 use Rattle.xindex_core.specs.declared.index.Index.{Index}
 use Rattle.xindex_core.specs.declared.keeper.Keeper.{Keeper}
 use Rattle.xindex_core.specs.declared.pass.Pass.{Pass}
-use Rattle.xindex_core.specs.Closing.{AreAllLogsIn, AreAllPasses, ArePassesFrom, ArePassesOf}
-use Rattle.xindex_core.specs.Closing.{ClosedLogsHaveOneOrder, EndsForAll, IsClosedWith}
-use Rattle.xindex_core.specs.Closing.{PassesInOrderAreAll, all_hands, caller_numbers}
+use Rattle.xindex_core.specs.Closing.{AreAllKeepers, AreAllLogsIn, AreAllPasses, AreKeepersOf}
+use Rattle.xindex_core.specs.Closing.{ArePassesFrom, ArePassesOf, ClosedLogsHaveOneOrder, EndsForAll}
+use Rattle.xindex_core.specs.Closing.{IsClosedWith, IsReadBack, PassesInOrderAreAll, caller_numbers}
+use Rattle.xindex_core.specs.Closing.{calling_hands, keeping_hands, parts_kept}
 use Rattle.xindex_core.specs.OneOrder.{logs_of}
-use Rattle.xindex_core.specs.Passes.{IsKeeperOf, known_to, log_of, number_of, opening_with}
+use Rattle.xindex_core.specs.Passes.{IsKeeperOf, bounds_of_index, known_to, log_of, number_of}
+use Rattle.xindex_core.specs.Passes.{opening_with, part_kept_by}
 use Rattle.xindex_core.proofs.OneOrder.{as_many, below, log_at}
 
--- ---- the keeper is outside ----
+-- ---- keepers are outside ----
 
 never_crosses : (o : Opening) (t : Execution) (b : ℕ) (d : Action) (hand before : ℕ) →
     Allowed o t b d → IsKeeper o hand → before ≡ 0 → crossings_after (b == hand) d before ≡ 0
@@ -84,40 +87,68 @@ keeper_outside b h of keeper =
     (λ (follows : Follows (opening_of b) (view h)).
     ap (λ (z : ℕ). z % 2) (none_crossed (opening_of b) (known h) follows.valid h.number keeper))
 
+keepers_outside : (i : Index) (keepers : List Keeper) → AreKeepersOf i keepers →
+    AreOutside i.board (keeping_hands keepers)
+keepers_outside i [] of = tt
+keepers_outside i (k ∷ ks) of = (
+  of.0.of,
+  keeper_outside i.board k.hand of.0.of (let number = of.0.number in omega arith),
+  keepers_outside i ks of.1,
+)
+
 -- ---- all hands ----
 
-hand_in : (passes : List Pass) (keeper : Keeper) (n : ℕ) → In n (caller_numbers passes) →
-    In n (numbers_of (all_hands passes keeper))
-hand_in [] keeper n there = absurd there
-hand_in (p ∷ ps) keeper n there =
+hand_in : (passes : List Pass) (behind : List Hand) (n : ℕ) → In n (caller_numbers passes) →
+    In n (numbers_of (calling_hands passes ++ behind))
+hand_in [] behind n there = absurd there
+hand_in (p ∷ ps) behind n there =
     ⊎_elim (λ (z : n ≡ number_of p). inl z)
-    (λ (z : In n (caller_numbers ps)). inr (hand_in ps keeper n z)) there
+    (λ (z : In n (caller_numbers ps)). inr (hand_in ps behind n z)) there
 
-keeper_in : (passes : List Pass) (keeper : Keeper) →
-    In keeper.hand.number (numbers_of (all_hands passes keeper))
-keeper_in [] keeper = inl refl
-keeper_in (p ∷ ps) keeper = inr (keeper_in ps keeper)
+in_behind : (passes : List Pass) (behind : List Hand) (n : ℕ) → In n (numbers_of behind) →
+    In n (numbers_of (calling_hands passes ++ behind))
+in_behind [] behind n there = there
+in_behind (p ∷ ps) behind n there = inr (in_behind ps behind n there)
 
-all_outside : (i : Index) (passes : List Pass) (keeper : Keeper) → ArePassesOf i passes →
-    IsKeeperOf i keeper → AreOutside i.board (all_hands passes keeper)
-all_outside i [] keeper of is = (is.of, keeper_outside i.board keeper.hand is.of is.number, tt)
-all_outside i (p ∷ ps) keeper of is =
-    (of.0.of, of.0.rests.outside, all_outside i ps keeper of.1 is)
+keeper_in : (i : Index) (keepers : List Keeper) (part n : ℕ) → AreKeepersOf i keepers →
+    IsPartKeeper (opening_with i) n part → In part (parts_kept keepers) →
+    In n (numbers_of (keeping_hands keepers))
+keeper_in i [] part n of is there = absurd there
+keeper_in i (k ∷ ks) part n of is there =
+    ⊎_elim
+    (λ (z : part ≡ part_kept_by k). let number = of.0.number in inl (omega arith))
+    (λ (z : In part (parts_kept ks)). inr (keeper_in i ks part n of.1 is z)) there
 
-pub all_there : (i : Index) (passes : List Pass) (keeper : Keeper) → AreAllPasses i passes →
-    IsKeeperOf i keeper → AreAllHands i.board (all_hands passes keeper)
-all_there i passes keeper all is =
+all_outside : (i : Index) (passes : List Pass) (behind : List Hand) → ArePassesOf i passes →
+    AreOutside i.board behind → AreOutside i.board (calling_hands passes ++ behind)
+all_outside i [] behind of rest = rest
+all_outside i (p ∷ ps) behind of rest =
+    (of.0.of, of.0.rests.outside, all_outside i ps behind of.1 rest)
+
+pub all_there : (i : Index) (passes : List Pass) (keepers : List Keeper) → AreAllPasses i passes →
+    AreAllKeepers i keepers → AreAllHands i.board (calling_hands passes ++ keeping_hands keepers)
+all_there i passes keepers all are =
+    let callers = (limits (opening_with i)).callers in
     record {
-      outside = all_outside i passes keeper all.of is;
+      outside = all_outside i passes (keeping_hands keepers) all.of (keepers_outside i keepers are.of);
       each = λ n hand. ⊎_elim
-          (λ (caller : n < (limits (opening_with i)).callers).
-          hand_in passes keeper n (all.each n caller))
-          (λ (last : (limits (opening_with i)).callers ≤ n).
-          let number = is.number in
-          let same : keeper.hand.number ≡ n = (let most = hand in omega arith) in
-          subst (λ (m : ℕ). In m (numbers_of (all_hands passes keeper))) same
-          (keeper_in passes keeper))
-          (less_or_not n (limits (opening_with i)).callers);
+          (λ (caller : n < callers). hand_in passes (keeping_hands keepers) n (all.each n caller))
+          (λ (above : callers ≤ n).
+          in_behind passes (keeping_hands keepers) n
+          (keeper_in i keepers (n - callers) n are.of (omega arith)
+          (are.each (n - callers) (omega arith))))
+          (less_or_not n callers);
+    }
+
+-- where there is one part, its keeper is all of them
+pub one_keeper : (i : Index) (keeper : Keeper) → bounds_of_index i ≡ [] → IsKeeperOf i keeper →
+    AreAllKeepers i (keeper ∷ [])
+one_keeper i keeper one is =
+    let none = ap (λ (z : List ℕ). length z) one in
+    let kept = is.is_part in
+    record {
+      of = (is, tt);
+      each = λ part is_part. inl (omega arith);
     }
 
 -- ---- nobody holds a lock ----
@@ -181,10 +212,10 @@ at_rest i l hands words layout all leaves =
 
 -- ---- logs ----
 
-ends_for : (passes : List Pass) (keeper : Keeper) (t : Execution) →
-    EndsFor (all_hands passes keeper) t → EndsForAll passes t
-ends_for [] keeper t ends = tt
-ends_for (p ∷ ps) keeper t ends = (ends.0, ends_for ps keeper t ends.1)
+ends_for : (passes : List Pass) (behind : List Hand) (t : Execution) →
+    EndsFor (calling_hands passes ++ behind) t → EndsForAll passes t
+ends_for [] behind t ends = tt
+ends_for (p ∷ ps) behind t ends = (ends.0, ends_for ps behind t ends.1)
 
 all_logged : (i : Index) (passes : List Pass) (t : Execution) → Valid (opening_with i) t →
     ArePassesOf i passes → EndsForAll passes t → AreAllLogsIn i (history t) passes
@@ -199,21 +230,21 @@ all_logged i (p ∷ ps) t valid of ends =
     )
 
 -- what was read of the words is what the history of the logs leaves
-pub closed : (i : Index) (l : Layout) (passes : List Pass) (keeper : Keeper) (words : List ℕ)
-    (pairs : Map) → l ≡ (opening_with i).layout → AreAllPasses i passes → IsKeeperOf i keeper →
-    Leaves (opening_with i) (all_hands passes keeper) words → TellPairs l words pairs →
-    IsClosedWith i passes pairs
-closed i l passes keeper words pairs layout all is leaves tell =
+pub closed : (i : Index) (passes : List Pass) (keepers : List Keeper) (pairs : Map) →
+    AreAllPasses i passes → AreAllKeepers i keepers →
+    IsReadBack i (calling_hands passes ++ keeping_hands keepers) pairs → IsClosedWith i passes pairs
+closed i passes keepers pairs all are read =
     let o = opening_with i in
-    let t = leaves.execution in
-    let ends = ends_for passes keeper t leaves.ends in
-    let lawful = legal o t leaves.valid in
-    let left = tell o t
-    (at_rest i l (all_hands passes keeper) words layout (all_there i passes keeper all is) leaves) in
+    let hands = calling_hands passes ++ keeping_hands keepers in
+    let t = read.leaves.execution in
+    let ends = ends_for passes (keeping_hands keepers) t read.leaves.ends in
+    let lawful = legal o t read.leaves.valid in
+    let left = read.tells o t
+    (at_rest i o.layout hands read.words refl (all_there i passes keepers all are) read.leaves) in
     record {
       execution = t;
       ends = ends;
-      logs = all_logged i passes t leaves.valid all.of ends;
+      logs = all_logged i passes t read.leaves.valid all.of ends;
       by_callers = lawful.1;
       legal = lawful.0;
       left = left;

@@ -5,7 +5,7 @@ use Rattle.atomic_table.specs.Seated.{TableId}
 use Rattle.index_machine.specs.declared.opening.Opening.{Opening}
 use Rattle.index_machine.specs.Conditions.{MayEnter}
 use Rattle.index_machine.specs.Rows.{Holds, HoldsNone}
-use Rattle.index_machine.specs.Sections.{IsKeeper}
+use Rattle.index_machine.specs.Keepers.{IsPart, IsPartKeeper}
 use Rattle.index_rule.specs.declared.hand.Hand.{Hand}
 use Rattle.index_rule.specs.declared.rows.PrivateRow.{PrivateRow}
 use Rattle.index_rule.specs.Hands.{IsHandOf, known}
@@ -17,6 +17,7 @@ use Rattle.xindex_core.specs.declared.pass.Pass.{Pass}
 use Rattle.xindex_core.specs.Naming.{IsNameOf, NamesSettleTheIndex}
 use Rattle.xindex_core.specs.Callers.{IsTruthful}
 use Rattle.xindex_core.specs.Passes.{log_of, IsKeeperOf, IsPassOf, known_to, number_of, opening_with}
+use Rattle.xindex_core.specs.Passes.{part_kept_by}
 
 module _ (table : TableId) (opening : Option Opening) (i j : Index)
     (one : IsNameOf table opening i) (other : IsNameOf table opening j) where
@@ -57,7 +58,10 @@ module _ (table : TableId) (opening : Option Opening) (i j : Index)
   keeper_of keeper of =
       record {
         of = hand_of keeper.hand of.of;
-        number = subst (λ (o : Opening). IsKeeper o keeper.hand.number) opening_is of.number;
+        is_part = subst (λ (o : Opening). IsPart o (part_kept_by keeper)) opening_is of.is_part;
+        number = subst
+            (λ (o : Opening). IsPartKeeper o keeper.hand.number (part_kept_by keeper))
+            opening_is of.number;
       }
 
 pub names_settle : NamesSettleTheIndex

@@ -9,14 +9,17 @@ use Rattle.index_machine.specs.Execution.{ContinuesWithout, Execution}
 use Rattle.index_machine.specs.Lists.{In}
 use Rattle.index_machine.specs.LivePlaces.{history}
 use Rattle.index_machine.specs.Openings.{opening_map}
+use Rattle.index_machine.specs.Keepers.{IsPart}
 use Rattle.index_machine.specs.Sections.{IsCaller}
 use Rattle.machine_places.specs.Agreement.{AreByCallers}
+use Rattle.index_rule.specs.Ended.{Leaves}
 use Rattle.index_rule.specs.declared.hand.Hand.{Hand}
+use Rattle.resting_table.specs.Resting.{TellPairs}
 use Rattle.xindex_core.specs.declared.index.Index.{Index}
 use Rattle.xindex_core.specs.declared.keeper.Keeper.{Keeper}
 use Rattle.xindex_core.specs.declared.pass.Pass.{Pass}
 use Rattle.xindex_core.specs.OneOrder.{HaveOneOrder, IsPassOfCaller}
-use Rattle.xindex_core.specs.Passes.{IsPassOf, known_to, limits_of_index, log_of}
+use Rattle.xindex_core.specs.Passes.{IsKeeperOf, IsPassOf, known_to, limits_of_index, log_of, part_kept_by}
 use Rattle.xindex_core.specs.Passes.{number_of, opening_with}
 
 -- ---- all passes ----
@@ -65,12 +68,40 @@ pub record IsClosedWith (i : Index) (passes : List Pass) (pairs : Map) : Type 0 
   pub left : pairs ≡ after (opening_map (opening_with i)) (history execution)
   pub rising : IsRising pairs
 
+-- ---- all keepers ----
+
+-- the parts of the keepers
+abbrev pub parts_kept : List Keeper → List ℕ
+parts_kept [] = []
+parts_kept (k ∷ ks) = part_kept_by k ∷ parts_kept ks
+
+-- keepers of the index
+abbrev pub AreKeepersOf : Index → List Keeper → Type 0
+AreKeepersOf i [] = Unit {0}
+AreKeepersOf i (k ∷ ks) = IsKeeperOf i k × AreKeepersOf i ks
+
+-- the keepers of all parts, in any order
+pub record AreAllKeepers (i : Index) (keepers : List Keeper) : Type 0 where
+  pub of : AreKeepersOf i keepers
+  pub each : (part : ℕ) → IsPart (opening_with i) part → In part (parts_kept keepers)
+
 -- ---- hands ----
 
--- the hands of the passes, and the keeper's behind them
-abbrev pub all_hands : List Pass → Keeper → List Hand
-all_hands [] keeper = keeper.hand ∷ []
-all_hands (p ∷ ps) keeper = p.hand ∷ all_hands ps keeper
+-- the hands of the passes
+abbrev pub calling_hands : List Pass → List Hand
+calling_hands [] = []
+calling_hands (p ∷ ps) = p.hand ∷ calling_hands ps
+
+-- the hands of the keepers
+abbrev pub keeping_hands : List Keeper → List Hand
+keeping_hands [] = []
+keeping_hands (k ∷ ks) = k.hand ∷ keeping_hands ks
+
+-- these pairs were read of the words that some execution left, once these hands were given up
+pub record IsReadBack (i : Index) (hands : List Hand) (pairs : Map) : Type 0 where
+  pub words : List ℕ
+  pub leaves : Leaves (opening_with i) hands words
+  pub tells : TellPairs (opening_with i).layout words pairs
 
 -- ---- the laws ----
 

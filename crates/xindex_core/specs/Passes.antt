@@ -1,11 +1,12 @@
--- What contracts see of an index, of a pass and of the keeper.
+-- What contracts see of an index, of a pass and of a keeper.
 use Rattle.std.specs.Prelude.{◌≡◌, ℕ, Option, [], List, ◌+◌, ◌∷◌}
 use Rattle.atomic_table.specs.Seated.{TableId}
 use Rattle.word_layout.specs.declared.limits.Limits.{Limits}
 use Rattle.index_machine.specs.declared.opening.Opening.{Opening}
 use Rattle.index_machine.specs.Conditions.{MayEnter}
 use Rattle.index_machine.specs.Execution.{Execution}
-use Rattle.index_machine.specs.Sections.{IsKeeper}
+use Rattle.index_machine.specs.Keepers.{IsPart, IsPartKeeper}
+use Rattle.word_layout.specs.Layout.{bounds_of}
 use Rattle.index_machine.specs.Words.{limits}
 use Rattle.index_rule.specs.declared.rows.PrivateRow.{PrivateRow}
 use Rattle.index_rule.specs.declared.note.Note.{Note}
@@ -31,6 +32,10 @@ opening_with i = opening_of i.board
 -- the limits that the index was opened with
 abbrev pub limits_of_index : Index → Limits
 limits_of_index i = limits (opening_with i)
+
+-- the bounds of the parts that the index was opened with
+abbrev pub bounds_of_index : Index → List ℕ
+bounds_of_index i = bounds_of (opening_with i).layout
 
 -- ---- a pass ----
 
@@ -73,18 +78,29 @@ pub record IsPassOf (i : Index) (p : Pass) : Type 0 where
 abbrev pub IsNoteOf : Index → Note → Type 0
 IsNoteOf i note = board.IsNoteOf i.board note
 
--- ---- the keeper ----
+-- ---- a keeper ----
 
--- the keeper is the one of the index
+-- the part that is the keeper's own
+abbrev pub part_kept_by : Keeper → ℕ
+part_kept_by keeper = keeper.part
+
+-- the keeper is the one of its part of the index
 pub record IsKeeperOf (i : Index) (keeper : Keeper) : Type 0 where
   pub of : IsHandOf i.board keeper.hand
-  pub number : IsKeeper (opening_with i) keeper.hand.number
+  pub is_part : IsPart (opening_with i) (part_kept_by keeper)
+  pub number : IsPartKeeper (opening_with i) keeper.hand.number (part_kept_by keeper)
 
 -- the beginning of the execution that the keeper knows
 abbrev pub known_to_keeper : Keeper → Execution
 known_to_keeper keeper = known keeper.hand
 
 -- ---- a new index ----
+
+-- keepers that made no step yet, of the parts from this one on
+abbrev pub AreNewKeepers : Index → ℕ → List Keeper → Type 0
+AreNewKeepers i part [] = Unit {0}
+AreNewKeepers i part (k ∷ ks) =
+    IsKeeperOf i k × (part_kept_by k ≡ part) × (known_to_keeper k ≡ []) × AreNewKeepers i (part + 1) ks
 
 -- passes that made no step yet, with rising numbers from this one on
 abbrev pub AreNewPasses : Index → ℕ → List Pass → Type 0

@@ -20,13 +20,23 @@ pub struct Index {
     ghost empty: { opening_map (opening_of board) ≡ [] } by { Prim.hlevel props },
 }
 
-/// An index as it was opened, and all that steps on it.
+/// An index of one part as it was opened, and all that steps on it.
 #[derive(Drop)]
 pub struct Opened {
     pub index: Index,
     /// One for each caller, by rising numbers from 0.
     pub passes: Vec<Pass>,
     pub keeper: Keeper,
+}
+
+/// An index of several parts as it was opened, and all that steps on it.
+#[derive(Drop)]
+pub struct OpenedParts {
+    pub index: Index,
+    /// One for each caller, by rising numbers from 0.
+    pub passes: Vec<Pass>,
+    /// One for each part, by rising keys.
+    pub keepers: Vec<Keeper>,
 }
 
 /// Why no index was opened.

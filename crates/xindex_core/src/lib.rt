@@ -1,5 +1,5 @@
 //! The concurrent index as its users hold it: an index that all threads share, a pass for each caller, and
-//! the keeper.
+//! a keeper for each part.
 //!
 //! No call of a pass takes memory, waits or takes a mutex: each is tried once and says what it came to. A
 //! `Waiter` tries until a call is answered.
@@ -17,8 +17,8 @@ mod pass;
 mod telling;
 mod waiter;
 
-pub use closing::Unclosed;
-pub use index::{Index, OpenError, Opened};
+pub use closing::{Unclosed, UnclosedParts};
+pub use index::{Index, OpenError, Opened, OpenedParts};
 pub use index_rule::Note;
 pub use keeper::Keeper;
 pub use laws::{

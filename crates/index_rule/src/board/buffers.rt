@@ -5,11 +5,12 @@
 //! since it was loaded, so a key that had no row then has none until its own is there.
 ghost use Rattle.std.specs.Prelude.{◌≡◌, ◌<◌, ◌^◌};
 ghost use Rattle.word_layout.specs.Headers.{most_lanes};
+ghost use Rattle.word_layout.specs.Shape.{group_total};
 ghost use Rattle.word_layout.specs.Words.{address_of};
 ghost use Rattle.index_machine.specs.declared.events.Action.TheVariants.{LoadHead, LoadHeader};
 ghost use Rattle.index_machine.specs.declared.events.Action.TheVariants.{LoadLink, LoadPhase};
 ghost use Rattle.index_machine.specs.Lanes.{lanes};
-ghost use Rattle.index_machine.specs.Words.{limits, link_behind};
+ghost use Rattle.index_machine.specs.Words.{shape, link_behind};
 ghost use Rattle.machine_buffers.specs.Walks.{IsWalkable};
 ghost use Rattle.index_rule.specs.Buffers.{CanSeePhase, CanWalk, IsLaneHeader, IsRowOf};
 ghost use Rattle.index_rule.specs.Buffers.{Links, MayInsertRow, TellsBegun};
@@ -30,7 +31,7 @@ impl Board {
     #[inline]
     pub fn load_header(&self, hand: &mut Hand, group: u32, which: HeaderWord) -> u64
         requires hand { IsHandOf self.now hand.old }
-        requires group { group < (limits (opening_of self.now)).groups }
+        requires group { group < group_total (shape (opening_of self.now)) }
         requires may { CanWalk (opening_of self.now) hand.old.number group (known hand.old) }
         requires which { IsLaneHeader (opening_of self.now) group which (known hand.old) }
         ensures step { Makes self.now hand.old (LoadHeader group which result) hand.new }
@@ -49,7 +50,7 @@ impl Board {
     #[inline]
     pub fn load_head(&self, hand: &mut Hand, group: u32, lane: u32) -> u64
         requires hand { IsHandOf self.now hand.old }
-        requires group { group < (limits (opening_of self.now)).groups }
+        requires group { group < group_total (shape (opening_of self.now)) }
         requires may { CanWalk (opening_of self.now) hand.old.number group (known hand.old) }
         requires lane { lane < lanes (opening_of self.now) group (known hand.old) }
         ensures { Makes self.now hand.old (LoadHead group lane result) hand.new }
@@ -76,7 +77,7 @@ impl Board {
     #[inline]
     pub fn load_phase(&self, hand: &mut Hand, group: u32) -> u64
         requires hand { IsHandOf self.now hand.old }
-        requires group { group < (limits (opening_of self.now)).groups }
+        requires group { group < group_total (shape (opening_of self.now)) }
         requires may { CanSeePhase (opening_of self.now) hand.old.number group (known hand.old) }
         ensures { Makes self.now hand.old (LoadPhase group result) hand.new }
     {
@@ -98,7 +99,7 @@ impl Board {
         row: PrivateRow,
     ) -> Linked
         requires hand { IsHandOf self.now hand.old }
-        requires group { group < (limits (opening_of self.now)).groups }
+        requires group { group < group_total (shape (opening_of self.now)) }
         requires may { MayInsertRow (opening_of self.now) hand.old.number group lane
             (place_of_private row) before expected (known hand.old) }
         ensures { Links self.now hand.old group lane (place_of_private row) before expected result
@@ -121,10 +122,10 @@ impl Board {
     /// The address of the link behind a row of a group's buffer, or of the lane's head for 0.
     #[inline]
     pub fn link_address(&self, group: u32, lane: u32, before: u32) -> u32
-        requires group { group < (limits (opening_of self.now)).groups }
+        requires group { group < group_total (shape (opening_of self.now)) }
         requires lane { lane < most_lanes }
         requires place { before < 2 ^ 28 }
-        ensures { result ≡ address_of (limits (opening_of self.now))
+        ensures { result ≡ address_of (shape (opening_of self.now))
             (link_behind group lane before) }
     {
         if before == 0 {

@@ -2,7 +2,7 @@
 ghost use Rattle.std.specs.Prelude.{◌≡◌, IfOk, IfErr, Some, length};
 ghost use Rattle.std.specs.Slots.{IsFull, slots_items, slots_len};
 ghost use Rattle.word_layout.specs.Limits.{word_count};
-ghost use Rattle.word_layout.specs.Layout.{limits_of};
+ghost use Rattle.word_layout.specs.Layout.{shape_of};
 ghost use Rattle.index_rule.specs.Hands.{opening_of};
 ghost use Rattle.index_rule.specs.declared.hand.Hand.{Hand};
 ghost use Rattle.index_rule.specs.Ended.{AreAllHands, AreOf, Includes, IncludesAll, Leaves};
@@ -38,7 +38,7 @@ impl Board {
     /// as many. It takes no memory, so nothing has to be handed back.
     pub fn close_into(self, hands: Vec<Hand>, mut words: Vec<u64>) -> Vec<u64>
         requires hands { AreAllHands self hands.items }
-        requires many { length words.items ≡ word_count (limits_of self.layout) }
+        requires many { length words.items ≡ word_count (shape_of self.layout) }
         ensures { Leaves (opening_of self) hands.items result.items }
     {
         let count = words.len();
@@ -56,7 +56,7 @@ impl Board {
         requires { AreAllHands self hands.items }
         ensures words { LeavesInMemory (opening_of self) hands.items (slots_items result.words) }
         ensures full { IsFull result.words }
-        ensures wide { slots_len result.words ≡ offset_count (limits_of self.layout) }
+        ensures wide { slots_len result.words ≡ offset_count (shape_of self.layout) }
         ensures slotless { slots_len result.slots ≡ 0 }
     {
         let Hand {

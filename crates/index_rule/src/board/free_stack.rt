@@ -11,8 +11,8 @@ ghost use Rattle.index_machine.specs.declared.events.Action.TheVariants.{LoadFre
 ghost use Rattle.index_machine.specs.declared.events.Action.TheVariants.{PopFree, FailPop};
 ghost use Rattle.index_machine.specs.declared.events.Action.TheVariants.{StorePrivate, PushFree};
 ghost use Rattle.index_machine.specs.declared.events.Action.TheVariants.{FailPush};
-ghost use Rattle.index_machine.specs.Words.{limits, word};
-ghost use Rattle.index_machine.specs.Sections.{IsKeeper};
+ghost use Rattle.index_machine.specs.Words.{shape, word};
+ghost use Rattle.index_machine.specs.Keepers.{IsKeeper};
 ghost use Rattle.index_machine.specs.Rows.{Holds, HoldsNone};
 ghost use Rattle.index_machine.specs.ObservedHeads.{HeadAndLink, observed_head, Observes};
 ghost use Rattle.index_machine.specs.ObservedHeads.{IsUnobserved};
@@ -35,7 +35,7 @@ impl Board {
         requires hand { IsHandOf self.now hand.old }
         requires may { MayLoadFree (opening_of self.now) hand.old.number (known hand.old) }
         ensures step { Makes self.now hand.old (LoadFree result) hand.new }
-        ensures row { result ≢ 0 → IsRow (limits (opening_of self.now)) result }
+        ensures row { result ≢ 0 → IsRow (shape (opening_of self.now)) result }
     {
         let offset = self.free_head_offset();
         self.words.shared.load::<LoadsFree>(&mut hand.seat, offset)
@@ -85,7 +85,7 @@ impl Board {
         requires held { Holds (opening_of self.now) hand.old.number (R.place_of row.old)
             (known hand.old) }
         requires word { IsWordOf (R.place_of row.old) word }
-        requires fits { FitsPart (limits (opening_of self.now))
+        requires fits { FitsPart (shape (opening_of self.now))
             (part_of (R.place_of row.old) word) value }
         ensures step { let place = R.place_of row.old in
             Makes self.now hand.old (StorePrivate place (part_of place word) value) hand.new }

@@ -1,7 +1,9 @@
-//! A board is opened, with a hand for each caller and one for the keeper.
-ghost use Rattle.std.specs.Prelude.{◌≡◌, ◌≤◌, IfOk, [], length};
+//! A board is opened, with a hand for each caller and one for the keeper of each part.
+ghost use Rattle.std.specs.Prelude.{◌≡◌, ◌≤◌, ◌+◌, IfOk, [], length};
 ghost use Rattle.map_model.specs.Map.{IsRising};
 ghost use Rattle.word_layout.specs.Layout.{limits_of};
+ghost use Rattle.word_layout.specs.Shape.{parts_in};
+ghost use Rattle.index_machine.specs.Words.{limits, shape};
 ghost use Rattle.index_rule.specs.Rule.{first_view};
 ghost use Rattle.index_rule.specs.Hands.{opening_of};
 ghost use Rattle.index_rule.specs.Opened.{HasNewHands};
@@ -18,8 +20,8 @@ use std::alloc::{AllocError, Global};
 use word_layout::Layout;
 
 impl Board {
-    /// A board with its hands: one for each caller, by rising numbers, and the keeper's behind
-    /// them. The array of group 0 has the rows, by rising key.
+    /// A board with its hands, by rising numbers: one for each caller, and behind them one for the
+    /// keeper of each part. The array of each part's first group has the part's rows, by rising key.
     pub fn open(
         alloc: Global,
         layout: &Layout,
@@ -53,6 +55,14 @@ impl Board {
         self.layout
     }
 
+    // The greatest number of a hand, which is that of the last part's keeper.
+    fn last_hand(&self) -> u32
+        ensures { let o = opening_of self.now in
+            result + 1 ≡ (limits o).callers + parts_in (shape o) }
+    {
+        self.layout.limits().callers + self.layout.parts().count() - 1
+    }
+
     fn make_hands(&self, alloc: Global, mut seat: Place) -> Result<Vec<Hand>, AllocError>
         requires table { seat.table_id ≡ self.now.words.shared.table_id }
         requires first { seat.me.0 ≡ first_view (opening_of self.now) }
@@ -60,8 +70,8 @@ impl Board {
         ensures { IfOk result (λ hands. HasNewHands self.now hands.items) }
     {
         let mut hands = Vec::new(alloc);
-        let callers = self.layout.limits().callers;
-        for number in 0..callers {
+        let last = self.last_hand();
+        for number in 0..last {
             let one = self.words.shared.split_seat::<MakesHand>(&mut seat);
             hands.push(Hand {
                 seat: one,
@@ -72,7 +82,7 @@ impl Board {
         }
         hands.push(Hand {
             seat,
-            number: callers,
+            number: last,
             epoch: 0,
             locked: 0,
         })?;

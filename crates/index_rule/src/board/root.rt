@@ -1,10 +1,13 @@
-//! The loads of the root, by which a hand comes to a group.
+//! The loads of the roots, by which a hand comes to a group.
 //!
-//! The root word names a side and how many slots are in use there. A caller may read the slots of
-//! the root word that it loaded, also where the root names the other side by now.
+//! Each part has a root. Its root word names a side and how many slots are in use there. A caller may
+//! read the slots of the root word that it loaded, also where the root names the other side by now.
 ghost use Rattle.std.specs.Prelude.{◌⊎◌};
 ghost use Rattle.index_machine.specs.declared.events.Action.TheVariants.{LoadRoot, LoadSlotGroup};
-ghost use Rattle.index_machine.specs.Sections.{IsKeeper, IsReading};
+ghost use Rattle.index_machine.specs.Sections.{IsReading};
+ghost use Rattle.index_machine.specs.Words.{shape};
+ghost use Rattle.word_layout.specs.Parts.{HasKeyAlone};
+ghost use Rattle.index_machine.specs.Keepers.{IsPart, IsPartKeeper};
 ghost use Rattle.index_rule.specs.Hands.{IsHandOf, Makes, known, opening_of};
 ghost use Rattle.index_rule.specs.Records.{CanReadSlot};
 
@@ -13,27 +16,36 @@ use crate::hand::Hand;
 use crate::plays::{LoadsRoot, LoadsSlotGroup};
 
 impl Board {
-    /// Loads the root word.
+    /// The part that has a key. Its bounds stay as they were opened, so this is no step.
     #[inline]
-    pub fn load_root(&self, hand: &mut Hand) -> u64
-        requires hand { IsHandOf self.now hand.old }
-        requires may { IsReading (opening_of self.now) hand.old.number (known hand.old)
-            ⊎ IsKeeper (opening_of self.now) hand.old.number }
-        ensures { Makes self.now hand.old (LoadRoot result) hand.new }
+    pub fn part_of(&self, key: u64) -> u32
+        ensures { HasKeyAlone (shape (opening_of self.now)).bounds result key }
     {
-        let offset = self.root_offset();
+        self.layout.part_of(key)
+    }
+
+    /// Loads the root word of a part.
+    #[inline]
+    pub fn load_root(&self, hand: &mut Hand, part: u32) -> u64
+        requires hand { IsHandOf self.now hand.old }
+        requires part { IsPart (opening_of self.now) part }
+        requires may { IsReading (opening_of self.now) hand.old.number (known hand.old)
+            ⊎ IsPartKeeper (opening_of self.now) hand.old.number part }
+        ensures { Makes self.now hand.old (LoadRoot part result) hand.new }
+    {
+        let offset = self.root_offset(part);
         self.words.shared.load::<LoadsRoot>(&mut hand.seat, offset)
     }
 
-    /// Loads the group word of a slot: the number of a group.
+    /// Loads the group word of a slot of a part's root: the number of a group.
     #[inline]
-    pub fn load_slot_group(&self, hand: &mut Hand, side: u32, slot: u32) -> u64
+    pub fn load_slot_group(&self, hand: &mut Hand, part: u32, side: u32, slot: u32) -> u64
         requires hand { IsHandOf self.now hand.old }
-        requires may { CanReadSlot (opening_of self.now) hand.old.number side slot
+        requires may { CanReadSlot (opening_of self.now) hand.old.number part side slot
             (known hand.old) }
-        ensures { Makes self.now hand.old (LoadSlotGroup side slot result) hand.new }
+        ensures { Makes self.now hand.old (LoadSlotGroup part side slot result) hand.new }
     {
-        let offset = self.cold_offset(self.layout.slot_group(side, slot));
+        let offset = self.cold_offset(self.layout.slot_group(part, side, slot));
         self.words
             .shared
             .load::<LoadsSlotGroup>(&mut hand.seat, offset)

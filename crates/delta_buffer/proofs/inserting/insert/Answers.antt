@@ -1,5 +1,5 @@
 use Rattle.std.proofs.Common.{ℕ, sym, subst, arith}
-use Rattle.index_machine.specs.Words.{limits}
+use Rattle.index_machine.specs.Words.{shape}
 use Rattle.index_rule.specs.declared.rows.PrivateRow.{PrivateRow}
 use Rattle.index_rule.specs.Buffers.{Links, MayInsertRow}
 use Rattle.index_rule.specs.Hands.{known, opening_of}
@@ -18,7 +18,7 @@ link_word-link-requires c =
 
 pub store_private-requires-clause-fits : goal.store_private-requires-clause-fits
 store_private-requires-clause-fits c =
-    fits_each (limits (opening_of c.args.board.now)) _ c.args.next (row_ahead_of c.args.board.now c.args.hand.now c.args.lane.group _
+    fits_each (shape (opening_of c.args.board.now)) _ c.args.next (row_ahead_of c.args.board.now c.args.hand.now c.args.lane.group _
     c.args.next c.requires.search.call.of c.requires.may.between.2)
 
 pub swap_link-requires-clause-may : goal.swap_link-requires-clause-may

@@ -1,7 +1,7 @@
 use Rattle.std.proofs.Common.{◌≤◌, List, ◌∙◌, ap, length, subst, sym}
 use Rattle.word_layout.specs.declared.layout.Layout.{Layout}
 use Rattle.word_layout.specs.declared.limits.Limits.{Limits}
-use Rattle.word_layout.specs.Layout.{limits_of}
+use Rattle.word_layout.specs.Layout.{bounds_of, limits_of}
 use Rattle.index_rule.specs.declared.hand.Hand.{Hand}
 use Rattle.index_rule.specs.Opened.{AreNewHands}
 use Rattle.index_tests.proofs.boards.opened.Goals as goal
@@ -21,6 +21,7 @@ returns-clause-board g c =
     record {
       callers = ap (λ (z : Layout). (limits_of z).callers) kept ∙ ap (λ (l : Limits). l.callers) laid;
       groups = ap (λ (z : Layout). (limits_of z).groups) kept ∙ ap (λ (l : Limits). l.groups) laid;
+      one_part = ap (λ (z : Layout). bounds_of z) kept ∙ c.in-Ok.ensures.parts;
       rows = c.in-Ok-open.ensures.rows;
     }
 

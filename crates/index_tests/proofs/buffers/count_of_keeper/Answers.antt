@@ -3,7 +3,7 @@ use Rattle.index_machine.specs.declared.events.Action.TheVariants.{LoadRoot}
 use Rattle.index_rule.specs.Hands.{known, opening_of}
 use Rattle.index_rule.proofs.Stepping.{built_known}
 use Rattle.delta_buffer.proofs.Following.{keepers_follow}
-use Rattle.index_tests.proofs.Groups.{of_group_zero}
+use Rattle.index_tests.proofs.Groups.{keeps_zero, of_group_zero}
 use Rattle.index_tests.proofs.buffers.count_of_keeper.Goals as goal
 
 pub count-requires : goal.count-requires
@@ -14,6 +14,6 @@ count-requires c =
     let k = c.load_root.new.hand in
     let loads = c.load_root.ensures in
     let least = o.layout.kept.least_groups in
-    let built = built_known b h k (LoadRoot c.load_root.result) c.requires.hand loads in
-    keepers_follow b k 0 loads.of (loads.number ∙ c.requires.number) (omega arith)
-    (inl (inl (0, of_group_zero o 0 (known k) built (omega arith))))
+    let built = built_known b h k (LoadRoot 0 c.load_root.result) c.requires.hand loads in
+    keepers_follow b k 0 loads.of (keeps_zero b k (loads.number ∙ c.requires.number)) (omega arith)
+    (inl (inl (0, of_group_zero b 0 (known k) c.requires.one_part built (omega arith))))

@@ -11,6 +11,7 @@ pub loop-lane-init : goal.loop-lane-init
 loop-lane-init g c =
     record {
       in_group = record {
+        one_part = c.requires.one_part;
         numbered = c.lanes-many.ensures.number ∙ c.requires.numbered;
         search = c.lanes-many.ensures.search c.requires.search;
       };
@@ -36,6 +37,7 @@ loop-lane-preserved g c =
     let step = c.load_header-cut.ensures.step in
     record {
       in_group = record {
+        one_part = was.in_group.one_part;
         numbered = step.number ∙ was.in_group.numbered;
         search = search_on b 0 h k load refl step was.in_group.search;
       };

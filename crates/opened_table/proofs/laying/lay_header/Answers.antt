@@ -1,12 +1,11 @@
-use Rattle.std.proofs.Common.{◌≡◌, ◌<◌, ℕ, List, length, slice_set, sym, ap, subst, ◌∙◌, arith}
+use Rattle.std.proofs.Common.{◌≡◌, ℕ, List, length, slice_set, sym, ap, subst, ◌∙◌}
 use Rattle.line_window.specs.Line.{Parts, error_of}
 use Rattle.rebuild_plan.specs.Plan.{lane_count}
 use Rattle.word_layout.specs.Headers.{header_word}
-use Rattle.word_layout.specs.Layout.{limits_of}
+use Rattle.word_layout.specs.Layout.{shape_of}
 use Rattle.word_layout.specs.Words.{Header, address_of}
 use Rattle.word_layout.specs.declared.headers.HeaderWord.TheVariants as header
-use Rattle.index_machine.specs.OpeningRows.{keys_in}
-use Rattle.opened_table.specs.Laying.{LaysCuts}
+use Rattle.opened_table.specs.Laying.{LaysCuts, keys_in}
 use Rattle.opened_table.proofs.LaidHeaders.{header_laid}
 use Rattle.opened_table.proofs.LaidKeys.{length_of_keys, rising_keys}
 use Rattle.opened_table.proofs.laying.lay_header.Goals as goal
@@ -16,24 +15,25 @@ of-line-requires c = record { rising = rising_keys c.args.rows.now c.requires.ri
 
 pub returns : goal.returns
 returns c =
-    let l = limits_of c.args.layout.now in
+    let s = shape_of c.args.layout.now in
+    let group : ℕ = c.args.group in
+    let pivot : ℕ = c.args.pivot in
     let rows = c.args.rows.now in
     let keys : List ℕ = keys_in rows in
     let old : List ℕ = c.args.words.now.items in
     let new : List ℕ = c.lay_cuts.new.words.items in
-    let least = c.args.layout.now.kept.least_groups in
-    let groups : 0 < l.groups = omega arith in
-    let at_size : c.header.result ≡ address_of l (Header 0 header.Size) =
-    c.header.ensures.named
-    ∙ ap (λ (i : ℕ). address_of l (Header 0 (header_word i))) c.number.ensures
+    let at : (i : ℕ) → ℕ = λ i. address_of s (Header group (header_word i)) in
+    let at_pivot : c.header.result ≡ address_of s (Header group header.Pivot) =
+    c.header.ensures.named ∙ ap at c.number.ensures
     in
-    let at_error : c.header-2.result ≡ address_of l (Header 0 header.LineError) =
-    c.header-2.ensures.named
-    ∙ ap (λ (i : ℕ). address_of l (Header 0 (header_word i))) c.number-2.ensures
+    let at_size : c.header-2.result ≡ address_of s (Header group header.Size) =
+    c.header-2.ensures.named ∙ ap at c.number-2.ensures
     in
-    let at_lanes : c.header-3.result ≡ address_of l (Header 0 header.Lanes) =
-    c.header-3.ensures.named
-    ∙ ap (λ (i : ℕ). address_of l (Header 0 (header_word i))) c.number-3.ensures
+    let at_error : c.header-3.result ≡ address_of s (Header group header.LineError) =
+    c.header-3.ensures.named ∙ ap at c.number-3.ensures
+    in
+    let at_lanes : c.header-4.result ≡ address_of s (Header group header.Lanes) =
+    c.header-4.ensures.named ∙ ap at c.number-4.ensures
     in
     let error : c.error.result ≡ error_of keys =
     c.error.ensures ∙ ap (λ (z : Parts). z.error) c.of-line.ensures.line
@@ -42,11 +42,20 @@ returns c =
     c.from.ensures
     ∙ (c.lanes_for-lanes.ensures.count ∙ ap lane_count (sym (length_of_keys rows)))
     in
-    let sizes : (ℕ × ℕ × ℕ × ℕ × ℕ × ℕ) → List ℕ =
-    λ z. slice_set (slice_set (slice_set old z.0 z.1) z.2 z.3) z.4 z.5
+    let told : (ℕ × ℕ × ℕ × ℕ × ℕ × ℕ × ℕ) → List ℕ =
+    λ z. slice_set (slice_set (slice_set (slice_set old z.0 pivot) z.1 z.2) z.3 z.4) z.5 z.6
     in
-    header_laid l keys old new groups c.requires.wide
+    header_laid s group pivot keys old new c.requires.is_group c.requires.wide
     (subst
-    (λ (z : ℕ × ℕ × ℕ × ℕ × ℕ × ℕ). LaysCuts l keys (lane_count (length keys)) (sizes z) new)
-    (λ j. (at_size j, sym (length_of_keys rows) j, at_error j, error j, at_lanes j, lanes j))
+    (λ (z : ℕ × ℕ × ℕ × ℕ × ℕ × ℕ × ℕ).
+    LaysCuts s group pivot keys (lane_count (length keys)) (told z) new)
+    (λ j. (
+      at_pivot j,
+      at_size j,
+      sym (length_of_keys rows) j,
+      at_error j,
+      error j,
+      at_lanes j,
+      lanes j,
+    ))
     c.lay_cuts.ensures)

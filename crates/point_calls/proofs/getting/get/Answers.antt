@@ -1,5 +1,5 @@
 use Rattle.std.proofs.Common.{ℕ, ◌≤◌, Option, Some, None, rules, sym, ◌∙◌, subst, arith}
-use Rattle.index_machine.specs.Openings.{greatest_key}
+use Rattle.word_layout.specs.Parts.{greatest_key}
 use Rattle.index_rule.specs.declared.hand.Hand.{Hand}
 use Rattle.tried_calls.specs.declared.tried.Tried.{Tried}
 use Rattle.index_rule.specs.Looks.{MayWriteLook}

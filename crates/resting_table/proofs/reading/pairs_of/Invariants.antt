@@ -1,15 +1,11 @@
 use Rattle.std.proofs.Common.{◌≤◌, vec_capacity}
 use Rattle.word_layout.specs.Layout.{limits_of}
-use Rattle.index_machine.specs.declared.opening.Opening.{Opening}
-use Rattle.index_machine.specs.Execution.{Execution}
-use Rattle.resting_table.specs.Resting.{LeaveAtRest}
-use Rattle.resting_table.proofs.RestingWords.{Reads}
+use Rattle.resting_table.specs.Resting.{TellPairsBefore}
 use Rattle.resting_table.proofs.reading.pairs_of.Given as goal
 
-abbrev pub invariant-loop-met : goal.invariant-loop-met
-invariant-loop-met l =
+abbrev pub invariant-loop-part : goal.invariant-loop-part
+invariant-loop-part l =
     record {
       room : (limits_of l.layout).records ≤ vec_capacity l.pairs;
-      reads : (o : Opening) (t : Execution) (rest : LeaveAtRest l.layout l.words o t) →
-          Reads l.layout l.words o t rest l._met l.next l.pairs.items;
+      tell : TellPairsBefore l.layout l.words l.part l.pairs.items;
     }

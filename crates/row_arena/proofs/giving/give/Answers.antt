@@ -31,10 +31,8 @@ swap_free_push-requires-clause-unobserved c =
     let held = still_holds b h k _ c.requires.hand first tt _ c.requires.held in
     subst (λ (r : RetiredRow). IsUnobserved (opening_of b) (place_of_retired r) (known l))
     (sym c.store_private.ensures.row)
-    (still_unobserved b k l _ first.of c.store_private.ensures.step
-    (first.number ∙ c.requires.keeper) _ tt held
-    (still_unobserved b h k _ c.requires.hand first c.requires.keeper _ tt c.requires.held
-    c.requires.unobserved))
+    (still_unobserved b k l _ first.of c.store_private.ensures.step _ tt held
+    (still_unobserved b h k _ c.requires.hand first _ tt c.requires.held c.requires.unobserved))
 
 pub returns-in-Done-clause-steps : goal.returns-in-Done-clause-steps
 returns-in-Done-clause-steps c =

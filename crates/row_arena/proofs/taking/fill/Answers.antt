@@ -63,7 +63,7 @@ returns-clause-filled c =
     stores_part b l m _ place _ State _ _
     (ap place_of_private (c.store_private-2.ensures.row ∙ c.store_private.ensures.row))
     (c.state_word.ensures ∙ ap (λ (p : ℕ). part_address p State) c.place-place.ensures)
-    (c.word.ensures ∙ ap first_word (c.limits-version.ensures ∙ ap limits_of c.layout.ensures))
+    (c.word.ensures ∙ ap first_word (c.limits-version.ensures.limits ∙ ap limits_of c.layout.ensures))
     c.store_private-3.ensures.step
     in
     let held_first = still_holds b h k _ c.requires.hand first tt place c.requires.held in

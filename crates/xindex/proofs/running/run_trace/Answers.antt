@@ -1,9 +1,13 @@
 -- The passes of a run are all that closing asks for, and what is left is what its history leaves.
-use Rattle.std.proofs.Common.{subst, sym}
+use Rattle.std.proofs.Common.{◌∙◌, ap, subst, sym}
 use Rattle.xindex_core.specs.declared.index.Index.{Index}
 use Rattle.xindex_core.specs.Closing.{AreAllPasses, IsClosedWith}
+use Rattle.xindex_core.specs.Passes.{bounds_of_index}
 use Rattle.xindex.proofs.Runs.{all_after_run, run_closed}
 use Rattle.xindex.proofs.running.run_trace.Goals as goal
+
+pub close-requires-clause-one_part : goal.close-requires-clause-one_part
+close-requires-clause-one_part g c = ap bounds_of_index c.in_ok-opened.ensures.index ∙ c.in-Ok.ensures.opened.parts
 
 pub close-requires-clause-passes : goal.close-requires-clause-passes
 close-requires-clause-passes g c =

@@ -26,6 +26,7 @@ returns-clause-opened g c =
     let all = seen_is l (caller_with i c.serve_by-ended.result.1) c.serve_by-ended.ensures.alone until in
     record {
       limits = refl;
+      parts = c.requires.new.parts;
       empty = c.requires.new.empty;
       many = omega arith;
       passes = c.told_all-passes.ensures.served;

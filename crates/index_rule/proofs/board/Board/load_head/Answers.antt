@@ -1,7 +1,7 @@
 use Rattle.std.proofs.Common.{refl, subst}
 use Rattle.word_layout.specs.declared.headers.HeaderWord.TheVariants.{Head}
 use Rattle.word_layout.specs.Words.{Word, Header, IsWord}
-use Rattle.index_machine.specs.Words.{limits}
+use Rattle.index_machine.specs.Words.{shape}
 use Rattle.index_rule.specs.Hands.{opening_of, view}
 use Rattle.index_rule.specs.Rule.{Acts}
 use Rattle.index_rule.specs.Steps.{head_load}
@@ -20,7 +20,7 @@ load-requires c =
     let h = c.args.hand.now in
     let w = Header c.args.group (Head c.args.lane) in
     let at = at_address b w _ _ c.cold_offset-offset.ensures c.lane_head.ensures.named in
-    let there : IsWord (limits (opening_of b)) w =
+    let there : IsWord (shape (opening_of b)) w =
     (c.requires.group, lane_by_hand b h c.args.group c.args.lane c.requires.hand c.requires.lane) in (
       c.requires.hand.table,
       inside b w _ there at,
@@ -33,7 +33,7 @@ returns c =
     let b = c.args.self.now in
     let h = c.args.hand.now in
     let w = Header c.args.group (Head c.args.lane) in
-    let there : IsWord (limits (opening_of b)) w =
+    let there : IsWord (shape (opening_of b)) w =
     (c.requires.group, lane_by_hand b h c.args.group c.args.lane c.requires.hand c.requires.lane) in
     let at = at_address b w _ _ c.cold_offset-offset.ensures c.lane_head.ensures.named in
     let name = named_in b h w _ c.requires.hand there at in

@@ -1,9 +1,9 @@
 use Rattle.std.proofs.Common.{ℕ, ◌<◌, ap, ◌∙◌, refl, subst, sym}
 use Rattle.word_layout.specs.Addresses.{header_address}
 use Rattle.word_layout.specs.Headers.{header_words}
-use Rattle.word_layout.specs.Layout.{limits_of}
+use Rattle.word_layout.specs.Layout.{shape_of}
 use Rattle.word_layout.specs.Words.{Word, Header, IsWord}
-use Rattle.index_machine.specs.Words.{limits}
+use Rattle.index_machine.specs.Words.{shape}
 use Rattle.index_rule.specs.Hands.{opening_of, view}
 use Rattle.index_rule.specs.Rule.{Acts}
 use Rattle.index_rule.specs.Steps.{header_load}
@@ -31,8 +31,8 @@ load-requires c =
     let w = Header c.args.group c.args.which in
     let at = at_address b w _ _ c.cold_offset-offset.ensures
     (c.header-address.ensures.address
-    ∙ ap (header_address (limits_of b.layout) c.args.group) c.number.ensures) in
-    let there : IsWord (limits (opening_of b)) w = (
+    ∙ ap (header_address (shape_of b.layout) c.args.group) c.number.ensures) in
+    let there : IsWord (shape (opening_of b)) w = (
       c.requires.group,
       header_by_hand b h c.args.group c.args.which c.requires.hand c.requires.which,
     ) in (
@@ -49,8 +49,8 @@ returns c =
     let w = Header c.args.group c.args.which in
     let at = at_address b w _ _ c.cold_offset-offset.ensures
     (c.header-address.ensures.address
-    ∙ ap (header_address (limits_of b.layout) c.args.group) c.number.ensures) in
-    let there : IsWord (limits (opening_of b)) w = (
+    ∙ ap (header_address (shape_of b.layout) c.args.group) c.number.ensures) in
+    let there : IsWord (shape (opening_of b)) w = (
       c.requires.group,
       header_by_hand b h c.args.group c.args.which c.requires.hand c.requires.which,
     ) in

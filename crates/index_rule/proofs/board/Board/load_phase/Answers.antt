@@ -1,7 +1,7 @@
 use Rattle.std.proofs.Common.{ℕ, ap, ◌∙◌, refl, subst}
 use Rattle.word_layout.specs.declared.headers.HeaderWord.TheVariants.{Phase}
 use Rattle.word_layout.specs.Headers.{header_word}
-use Rattle.word_layout.specs.Layout.{limits_of}
+use Rattle.word_layout.specs.Layout.{shape_of}
 use Rattle.word_layout.specs.Words.{Word, Header, address_of}
 use Rattle.index_rule.specs.Hands.{opening_of, view}
 use Rattle.index_rule.specs.Rule.{Acts}
@@ -17,7 +17,7 @@ load-requires c =
     let w = Header c.args.group Phase in
     let at = at_address b w _ _ c.cold_offset-offset.ensures
     (c.header-address.ensures.named
-    ∙ ap (λ (n : ℕ). address_of (limits_of b.layout) (Header c.args.group (header_word n)))
+    ∙ ap (λ (n : ℕ). address_of (shape_of b.layout) (Header c.args.group (header_word n)))
     c.number.ensures)
     in (
       c.requires.hand.table,
@@ -33,7 +33,7 @@ returns c =
     let w = Header c.args.group Phase in
     let at = at_address b w _ _ c.cold_offset-offset.ensures
     (c.header-address.ensures.named
-    ∙ ap (λ (n : ℕ). address_of (limits_of b.layout) (Header c.args.group (header_word n)))
+    ∙ ap (λ (n : ℕ). address_of (shape_of b.layout) (Header c.args.group (header_word n)))
     c.number.ensures)
     in
     let name = named_in b h w _ c.requires.hand (c.requires.group, tt) at in

@@ -1,7 +1,4 @@
 use Rattle.std.proofs.Common.{rules, arith, ◌≡◌, ◌<◌, ◌+◌, length, sym, ap, subst, ◌∙◌, ℕ}
-use Rattle.word_layout.specs.declared.layout.Layout.{Layout}
-use Rattle.word_layout.specs.Layout.{limits_of}
-use Rattle.index_machine.specs.Words.{limits}
 use Rattle.index_rule.specs.declared.view.View.{View}
 use Rattle.index_rule.specs.Hands.{opening_of}
 use Rattle.index_rule.specs.Opened.{AreNewHands}
@@ -14,13 +11,10 @@ use Rattle.index_rule.proofs.board.Board.make_hands.Goals as goal
 pub loop-number-init : goal.loop-number-init
 loop-number-init c =
     let b = c.args.self.now in
-    let callers : c.limits-callers.result.callers ≡ (limits (opening_of b)).callers =
-    ap (λ l. l.callers) c.limits-callers.ensures
-    ∙ ap (λ (l : Layout). (limits_of l).callers) (sym b.laid)
-    in
+    let all = c.last_hand-last.ensures in
     record {
       table = c.requires.table;
-      callers = callers;
+      all = all;
       seat = c.requires.first
           ∙ ap (λ (n : ℕ). rest_of (opening_of b) 0 n) (omega arith);
       bare = c.requires.bare;
@@ -42,7 +36,7 @@ split_seat-one-requires c =
 pub invariant_of-push : goal.invariant_of-push
 invariant_of-push c =
     let o = opening_of c.args.self.now in
-    let k : ℕ = c.limits-callers.result.callers in
+    let k : ℕ = c.last_hand-last.result in
     let n : ℕ = c.loop-number.number in
     let below : n < k = c.loop-number-test.true in
     let is = ap (λ z. z.0) c.split_seat-one.ensures.4
@@ -60,7 +54,7 @@ pub loop-number-preserved : goal.loop-number-preserved
 loop-number-preserved c =
     let b = c.args.self.now in
     let o = opening_of b in
-    let k : ℕ = c.limits-callers.result.callers in
+    let k : ℕ = c.last_hand-last.result in
     let n : ℕ = c.loop-number.number in
     let below : n < k = c.loop-number-test.true in
     let i = c.loop-number.invariant in
@@ -71,7 +65,7 @@ loop-number-preserved c =
     let items = c.in_ok-push.ensures.items in
     record {
       table = e.0 ∙ i.table;
-      callers = i.callers;
+      all = i.all;
       seat = ap (λ z. z.0) e.2 ∙ (ap others_left i.seat ∙ left_next o k n (omega arith));
       bare = ap (λ z. z.1) e.2 ∙ i.bare;
       many = search rules;
@@ -85,7 +79,7 @@ loop-number-preserved c =
 pub invariant_of-push-2 : goal.invariant_of-push-2
 invariant_of-push-2 c =
     let o = opening_of c.args.self.now in
-    let k : ℕ = c.limits-callers.result.callers in
+    let k : ℕ = c.last_hand-last.result in
     let n : ℕ = c.loop-number.number in
     let i = c.loop-number.invariant in
     let end : n ≡ k = search rules in
@@ -102,7 +96,7 @@ pub returns : goal.returns
 returns c =
     let b = c.args.self.now in
     let o = opening_of b in
-    let k : ℕ = c.limits-callers.result.callers in
+    let k : ℕ = c.last_hand-last.result in
     let n : ℕ = c.loop-number.number in
     let i = c.loop-number.invariant in
     let end : n ≡ k = search rules in
@@ -110,6 +104,7 @@ returns c =
     let many = i.many in
     let at : k ≡ 0 + length c.loop-number.hands.items = omega arith in
     let items = c.in_ok-push-2.ensures.items in
+    let all = i.all in
     record {
       many = search rules;
       new = subst (AreNewHands b 0) (sym items)

@@ -1,9 +1,9 @@
 use Rattle.std.proofs.Common.{inl, ⊎_elim, refl, sym, arith, ◌≡◌, ap, ◌∙◌}
 use Rattle.word_layout.specs.declared.layout.Layout.{Layout}
-use Rattle.word_layout.specs.Layout.{limits_of}
+use Rattle.word_layout.specs.Layout.{shape_of}
 use Rattle.word_layout.specs.Places.{IsRow}
 use Rattle.word_layout.specs.Words.{address_of}
-use Rattle.index_machine.specs.Words.{limits, link_behind}
+use Rattle.index_machine.specs.Words.{shape, link_behind}
 use Rattle.index_rule.specs.Hands.{opening_of}
 use Rattle.index_rule.proofs.StepKinds.{at_address, at_word, cold, inside, makes, named_in}
 use Rattle.index_rule.proofs.BufferSteps.{behind_by_hand, lane_by_hand, link_lost, link_not_hot}
@@ -16,7 +16,7 @@ link_address-requires-clause-place c =
     let b = c.args.self.now in
     let before = c.args.before in
     ⊎_elim (λ (z : before ≡ 0). omega arith)
-    (λ (z : IsRow (limits (opening_of b)) before). place_below (opening_of b) before (inl z))
+    (λ (z : IsRow (shape (opening_of b)) before). place_below (opening_of b) before (inl z))
     (behind_by_hand b c.args.hand.now c.args.group c.args.lane c.args.row.place before
     c.args.expected c.requires.hand c.requires.may)
 
@@ -31,13 +31,13 @@ cold_offset-offset-requires c =
     let h = c.args.hand.now in
     let before = c.args.before in
     let w = link_behind c.args.group c.args.lane before in
-    let there = link_word_of (limits (opening_of b)) c.args.group c.args.lane before
+    let there = link_word_of (shape (opening_of b)) c.args.group c.args.lane before
     c.requires.group
     (lane_by_hand b h c.args.group c.args.lane c.requires.hand c.requires.may.in_lane.is_lane)
     (behind_by_hand b h c.args.group c.args.lane c.args.row.place before c.args.expected
     c.requires.hand c.requires.may) in
     cold b w _ there (link_not_hot c.args.group c.args.lane before)
-    (c.link_address.ensures ∙ ap (λ (l : Layout). address_of (limits_of l) w) b.laid)
+    (c.link_address.ensures ∙ ap (λ (l : Layout). address_of (shape_of l) w) b.laid)
 
 pub compare_exchange-found-requires : goal.compare_exchange-found-requires
 compare_exchange-found-requires c =
@@ -45,13 +45,13 @@ compare_exchange-found-requires c =
     let h = c.args.hand.now in
     let before = c.args.before in
     let w = link_behind c.args.group c.args.lane before in
-    let there = link_word_of (limits (opening_of b)) c.args.group c.args.lane before
+    let there = link_word_of (shape (opening_of b)) c.args.group c.args.lane before
     c.requires.group
     (lane_by_hand b h c.args.group c.args.lane c.requires.hand c.requires.may.in_lane.is_lane)
     (behind_by_hand b h c.args.group c.args.lane c.args.row.place before c.args.expected
     c.requires.hand c.requires.may) in
     let at = at_address b w _ _ c.cold_offset-offset.ensures
-    (c.link_address.ensures ∙ ap (λ (l : Layout). address_of (limits_of l) w) b.laid)
+    (c.link_address.ensures ∙ ap (λ (l : Layout). address_of (shape_of l) w) b.laid)
     in (
       c.requires.hand.table,
       inside b w _ there at,
@@ -66,13 +66,13 @@ returns-then-found-expected c =
     let h = c.args.hand.now in
     let before = c.args.before in
     let w = link_behind c.args.group c.args.lane before in
-    let there = link_word_of (limits (opening_of b)) c.args.group c.args.lane before
+    let there = link_word_of (shape (opening_of b)) c.args.group c.args.lane before
     c.requires.group
     (lane_by_hand b h c.args.group c.args.lane c.requires.hand c.requires.may.in_lane.is_lane)
     (behind_by_hand b h c.args.group c.args.lane c.args.row.place before c.args.expected
     c.requires.hand c.requires.may) in
     let at = at_address b w _ _ c.cold_offset-offset.ensures
-    (c.link_address.ensures ∙ ap (λ (l : Layout). address_of (limits_of l) w) b.laid)
+    (c.link_address.ensures ∙ ap (λ (l : Layout). address_of (shape_of l) w) b.laid)
     in
     let name = named_in b h w _ c.requires.hand there at in
     let does = link_taken b h _ _ c.args.group c.args.lane c.args.row.place before
@@ -86,13 +86,13 @@ returns-else-found-expected c =
     let h = c.args.hand.now in
     let before = c.args.before in
     let w = link_behind c.args.group c.args.lane before in
-    let there = link_word_of (limits (opening_of b)) c.args.group c.args.lane before
+    let there = link_word_of (shape (opening_of b)) c.args.group c.args.lane before
     c.requires.group
     (lane_by_hand b h c.args.group c.args.lane c.requires.hand c.requires.may.in_lane.is_lane)
     (behind_by_hand b h c.args.group c.args.lane c.args.row.place before c.args.expected
     c.requires.hand c.requires.may) in
     let at = at_address b w _ _ c.cold_offset-offset.ensures
-    (c.link_address.ensures ∙ ap (λ (l : Layout). address_of (limits_of l) w) b.laid)
+    (c.link_address.ensures ∙ ap (λ (l : Layout). address_of (shape_of l) w) b.laid)
     in
     let name = named_in b h w _ c.requires.hand there at in
     let does = link_lost b h _ _ c.args.group c.args.lane c.args.row.place before

@@ -46,7 +46,7 @@ loop-self-preserved c =
     let grows = i.looked.1 in
     let test : Passes (slice_index marks.words marks.passed) word = c.if-not-passes.ensures in
     let callers : c.limits-callers.result.callers ≡ (limits o).callers =
-    ap (λ (l : Limits). l.callers) c.limits-callers.ensures
+    ap (λ (l : Limits). l.callers) c.limits-callers.ensures.limits
     ∙ ap (λ (l : Layout). (limits_of l).callers) c.layout.ensures
     in
     let below : marks.passed < (limits o).callers =
@@ -77,7 +77,7 @@ pub returns-clause-quiet : goal.returns-clause-quiet
 returns-clause-quiet c is =
     let o = opening_of c.args.board.now in
     let callers : c.limits-callers.result.callers ≡ (limits o).callers =
-    ap (λ (l : Limits). l.callers) c.limits-callers.ensures
+    ap (λ (l : Limits). l.callers) c.limits-callers.ensures.limits
     ∙ ap (λ (l : Layout). (limits_of l).callers) c.layout.ensures
     in
     quiet o c.loop-self.self (known c.loop-self.hand)

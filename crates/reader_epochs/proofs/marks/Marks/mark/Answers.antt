@@ -21,7 +21,7 @@ loop-caller-preserved c =
     let m = c.load_epoch.ensures in
     let began = c.of-began.result.value in
     let callers : c.limits-caller-end.result.callers ≡ (limits_of (opening_of b).layout).callers =
-    ap (λ (l : Limits). l.callers) c.limits-caller-end.ensures
+    ap (λ (l : Limits). l.callers) c.limits-caller-end.ensures.limits
     ∙ ap (λ (l : Layout). (limits_of l).callers) c.layout.ensures
     in
     let most = (opening_of b).layout.kept.most_callers in

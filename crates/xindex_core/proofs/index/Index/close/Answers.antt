@@ -1,39 +1,29 @@
-use Rattle.std.proofs.Common.{ℕ, List, sym, subst}
+use Rattle.std.proofs.Common.{List, [], ◌∷◌, ◌≡◌, ◌++◌, ap, ◌∙◌, sym, subst}
 use Rattle.index_rule.specs.declared.hand.Hand.{Hand}
-use Rattle.index_rule.specs.Ended.{AreAllHands, Leaves}
-use Rattle.xindex_core.specs.Closing.{all_hands}
-use Rattle.xindex_core.specs.Passes.{opening_with}
-use Rattle.xindex_core.proofs.AllPasses.{all_there, at_rest, closed}
+use Rattle.index_rule.specs.Ended.{AreAllHands}
+use Rattle.xindex_core.specs.Closing.{IsReadBack}
+use Rattle.xindex_core.proofs.AllPasses.{all_there, closed, one_keeper}
 use Rattle.xindex_core.proofs.index.Index.close.Goals as goal
 
-pub close_into-words-requires-clause-hands : goal.close_into-words-requires-clause-hands
-close_into-words-requires-clause-hands c =
+pub read_back-requires-clause-hands : goal.read_back-requires-clause-hands
+read_back-requires-clause-hands c =
+    let keeper = c.args.keeper in
+    let pushed : c.push.new.self.items ≡ c.with_passes-hands.result.items ++ keeper.hand ∷ [] =
+    rw c.unwrap.ensures at c.push.ensures.items in
     subst (λ (hands : List Hand). AreAllHands c.args.self.board hands)
-    (sym c.hands_of-hands.ensures)
-    (all_there c.args.self c.args.passes.items c.args.keeper c.requires.passes c.requires.keeper)
-
-pub pairs_of-requires-clause-rest : goal.pairs_of-requires-clause-rest
-pairs_of-requires-clause-rest c =
-    let i = c.args.self in
-    let passes = c.args.passes.items in
-    let hands = all_hands passes c.args.keeper in
-    let leaves : Leaves (opening_with i) hands c.as_slice.result.now =
-    subst (λ (z : List Hand × List ℕ). Leaves (opening_with i) z.0 z.1)
-    (λ k. (c.hands_of-hands.ensures k, sym c.as_slice.ensures.value k))
-    c.close_into-words.ensures in (
-      opening_with i,
-      leaves.execution,
-      at_rest i c.layout-layout.result hands c.as_slice.result.now c.layout-layout.ensures
-          (all_there i passes c.args.keeper c.requires.passes c.requires.keeper) leaves,
-    )
+    (sym (pushed
+    ∙ ap (λ (hands : List Hand). hands ++ keeper.hand ∷ []) c.with_passes-hands.ensures.hands))
+    (all_there c.args.self c.args.passes.items (keeper ∷ []) c.requires.passes
+    (one_keeper c.args.self keeper c.requires.one_part c.requires.keeper))
 
 pub returns-clause-closed : goal.returns-clause-closed
 returns-clause-closed c =
-    let i = c.args.self in
-    let passes = c.args.passes.items in
-    closed i c.layout-layout.result passes c.args.keeper c.as_slice.result.now
-    c.pairs_of.result.items c.layout-layout.ensures c.requires.passes c.requires.keeper
-    (subst (λ (z : List Hand × List ℕ). Leaves (opening_with i) z.0 z.1)
-    (λ k. (c.hands_of-hands.ensures k, sym c.as_slice.ensures.value k))
-    c.close_into-words.ensures)
-    c.pairs_of.ensures
+    let keeper = c.args.keeper in
+    let pushed : c.push.new.self.items ≡ c.with_passes-hands.result.items ++ keeper.hand ∷ [] =
+    rw c.unwrap.ensures at c.push.ensures.items in
+    closed c.args.self c.args.passes.items (keeper ∷ []) c.read_back.result.items c.requires.passes
+    (one_keeper c.args.self keeper c.requires.one_part c.requires.keeper)
+    (subst (λ (hands : List Hand). IsReadBack c.args.self hands c.read_back.result.items)
+    (pushed
+    ∙ ap (λ (hands : List Hand). hands ++ keeper.hand ∷ []) c.with_passes-hands.ensures.hands)
+    c.read_back.ensures)

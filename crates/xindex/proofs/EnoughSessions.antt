@@ -1,4 +1,5 @@
--- Where there is enough for all requests of a session, none is refused: what changed is no more than what was asked.
+-- Where there is enough for all requests of a session over an index that nobody else changes, none is refused: what
+-- changed is no more than what was asked.
 use Rattle.std.proofs.Common.{◌≡◌, ℕ, ◌+◌, ◌<◌, ◌≤◌, List, [], ◌∷◌, sym, subst, arith}
 use Rattle.map_model.specs.declared.calls.Call.{Call}
 use Rattle.map_model.specs.declared.calls.Call.TheVariants as call
@@ -16,7 +17,7 @@ use Rattle.line_session.specs.Session.{Exchange, Session, Tells}
 use Rattle.line_session.proofs.Weighing.{Bounds, IsGiven, all_append, changes_few, entry_weighs, inserts_few}
 use Rattle.line_session.proofs.Weighing.{one_bounds, one_of, put_bounds, put_of, reply_given, total, weight}
 use Rattle.xindex_core.specs.Alone.{AddsNext, AnswersAlone}
-use Rattle.session_laws.specs.EnoughLaw.{EnoughRefusesNothing}
+use Rattle.caller_phases.specs.Enough.{HasEnough}
 
 -- ---- what a request changes ----
 
@@ -133,8 +134,10 @@ module _ (l : Limits) where
       (session_given s.0 rs s.2 new
       (record { rows = omega (arith, puts, rows); versions = omega (arith, all, versions) }) s.4))
 
-pub enough_refuses_nothing : EnoughRefusesNothing
-enough_refuses_nothing l log requests replies has session =
+-- where there is enough for all requests of a session from the empty log, none is refused
+pub session_refuses_nothing : (l : Limits) (log : Log) (requests : List Request) (replies : List Reply) →
+    Session (AnswersAlone l) [] requests replies log → HasEnough l requests → HasNoRefusal replies
+session_refuses_nothing l log requests replies session has =
     let rows = has.rows in
     let versions = has.versions in
     session_given l [] requests replies log

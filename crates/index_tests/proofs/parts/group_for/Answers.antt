@@ -1,0 +1,18 @@
+use Rattle.std.proofs.Common.{inl}
+use Rattle.point_calls.proofs.Locating.{comes_to, reading_rooted, sees_slot}
+use Rattle.index_tests.proofs.parts.group_for.Goals as goal
+
+pub load_slot_group-requires-clause-may : goal.load_slot_group-requires-clause-may
+load_slot_group-requires-clause-may c =
+    let is_part = c.part_of-part.ensures.is_part in inl (
+      reading_rooted c.args.board.now c.args.hand.now c.load_root.new.hand _ _ c.requires is_part
+          c.load_root.ensures,
+      sees_slot c.args.board.now c.args.hand.now c.load_root.new.hand _ _ c.requires is_part
+          c.load_root.ensures,
+    )
+
+pub returns : goal.returns
+returns c =
+    (comes_to c.args.board.now c.args.hand.now c.load_root.new.hand _ _ c.requires
+    c.part_of-part.ensures.is_part c.load_root.ensures c.load_slot_group.new.hand _
+    c.load_slot_group.ensures).search.call
