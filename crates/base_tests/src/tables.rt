@@ -1,6 +1,6 @@
 //! How many words a table has, where they stand, and which limits make none.
 use std::test::Fail;
-use word_layout::{BadLimit, HeaderWord, Limits};
+use word_layout::{BadLimit, HeaderWord, Limits, Parts};
 
 #[test]
 fn the_standard_limits_make_a_table_of_known_size(rt: HostRuntime) {
@@ -93,9 +93,9 @@ fn changed(changes: &[(&str, u32)]) -> Limits {
     limits
 }
 
-#[test]
-fn a_small_table_has_its_words_behind_one_another(rt: HostRuntime) {
-    let limits = Limits {
+// The limits of a small table.
+fn small() -> Limits {
+    Limits {
         callers: 3,
         records: 2,
         groups: 2,
@@ -105,7 +105,12 @@ fn a_small_table_has_its_words_behind_one_another(rt: HostRuntime) {
         help: 1,
         chain: 1,
         first_version: 0,
-    };
+    }
+}
+
+#[test]
+fn a_small_table_has_its_words_behind_one_another(rt: HostRuntime) {
+    let limits = small();
     let layout = limits.layout();
     assert!(rt; layout.is_ok());
     if let Ok(layout) = layout {
@@ -121,5 +126,36 @@ fn a_small_table_has_its_words_behind_one_another(rt: HostRuntime) {
         assert_eq!(rt; (layout.lane_cut(0, 0), layout.lane_cut(1, 7)), (25, 88));
         assert_eq!(rt; (layout.array(0, 0), layout.array(1, 7)), (33, 117));
         assert_eq!(rt; (layout.row(0), layout.row(1)), (121, 125));
+    }
+}
+
+#[test]
+fn each_part_has_a_root_and_groups_behind_those_before_it(rt: HostRuntime) {
+    let layout = small().layout_in(Parts::even(2));
+    assert!(rt; layout.is_ok());
+    if let Ok(layout) = layout {
+        assert_eq!(rt; layout.words(), 246);
+        assert_eq!(rt; layout.parts(), Parts::even(2));
+        assert_eq!(rt; (layout.part_of(0), layout.part_of(u64::MAX)), (0, 1));
+        assert_eq!(rt; (layout.first_group(0), layout.first_group(1)), (0, 2));
+        assert_eq!(rt; (layout.root(0), layout.root(1)), (1, 2));
+        assert_eq!(rt; (layout.epoch(0), layout.epoch(2)), (3, 5));
+        assert_eq!(rt; (layout.slot(0, 1, 0), layout.slot_group(0, 1, 0)), (8, 9));
+        assert_eq!(rt;
+            (layout.slot(1, 0, 0), layout.slot_group(1, 1, 0)),
+            (10, 13)
+        );
+        assert_eq!(rt; (layout.header(0, 0), layout.header(2, 0)), (14, 126));
+        assert_eq!(rt; (layout.array(3, 7), layout.row(0)), (234, 238));
+    }
+}
+
+#[test]
+fn the_rule_of_the_words_counts_those_of_all_parts(rt: HostRuntime) {
+    let limits = changed(&[("groups", 65536), ("group_size", 512)]);
+    let too_many = Err(BadLimit { number: 10 });
+    for (parts, words) in [(1, Ok(136053766)), (2, too_many), (16, too_many)] {
+        let layout = limits.layout_in(Parts::even(parts));
+        assert_eq!(rt; layout.map(|layout| layout.words()), words, "{parts} parts");
     }
 }

@@ -1,6 +1,8 @@
 pub mod Executions
 pub mod Options
 pub mod Ranges
+pub mod OpeningKeys
+pub mod OpeningPlan
 pub mod OpeningRows
 pub mod Placing
 pub mod Stores

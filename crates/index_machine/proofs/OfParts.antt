@@ -4,18 +4,18 @@ use Rattle.std.proofs.Common.{[], ◌∷◌, refl, sym, ap, ◌∙◌, subst, ar
 use Rattle.std.specs.Prelude.{◌==◌}
 use mathlib.Core.Logic.{dite}
 use native.Mathlib.Decide.{ℕ_discrete}
-use Rattle.std.proofs.lemmas.Bool.{cases_lt, lt-leb}
+use Rattle.std.proofs.lemmas.Bool.{cases_lt}
 use Rattle.word_layout.specs.declared.phase.Phase.{Phase}
 use Rattle.word_layout.specs.declared.phase.Phase.TheVariants.{Open, Frozen, Opened}
 use Rattle.word_layout.specs.Parts.{greatest_key, part_with}
 use Rattle.word_layout.specs.Shape.{group_total}
 use Rattle.word_layout.proofs.PartGroups.{part_with-key, part_with-has, key-greatest}
-use Rattle.word_layout.proofs.PartGroups.{first_group-part, group-part}
+use Rattle.word_layout.proofs.PartGroups.{group-part}
 use Rattle.index_machine.specs.declared.events.Action.{Action}
 use Rattle.index_machine.specs.declared.events.Action.TheVariants.{Freeze, Thaw, NewGroup, StoreOpened, Install}
 use Rattle.index_machine.specs.declared.opening.Opening.{Opening}
 use Rattle.index_machine.specs.Execution.{Execution, event}
-use Rattle.index_machine.specs.Words.{limits, shape}
+use Rattle.index_machine.specs.Words.{shape}
 use Rattle.index_machine.specs.Openings.{within}
 use Rattle.index_machine.specs.Keepers.{IsPart, part_of, IsKeyIn}
 use Rattle.index_machine.specs.Groups.{phase, rebuild, unless_named, name_used_again}
@@ -26,7 +26,7 @@ use Rattle.word_layout.proofs.PartGroups.{part_with-within}
 use Rattle.index_machine.specs.RebuildConditions.{MayBegin, MayInstall, part_of_spot}
 use Rattle.index_machine.specs.Conditions.{Allowed, Valid}
 use Rattle.index_machine.proofs.Executions.{choice-same, choice-other}
-use Rattle.index_machine.proofs.OpeningRows.{first_group_for-key, first_group_for-exists}
+use Rattle.index_machine.proofs.OpeningPlan.{opening_group-beyond, opening_group-exists, opening_group-part}
 use Rattle.index_machine.proofs.Options.{some_is, none_some, named_before, still_named}
 use Rattle.index_machine.proofs.Ranges.{in_range}
 
@@ -72,9 +72,6 @@ pub successor_exists : (o : Opening) (t : Execution) (k h : ℕ) → Valid o t �
 successor_exists o t k h valid e = (successors o t valid k h e).1
 
 -- ---- groups of keys ----
-
-pub some_group : (o : Opening) → 0 < (limits o).groups
-some_group o = let least = o.layout.kept.least_groups in omega arith
 
 -- no part has what is no key
 pub key_most : (o : Opening) (part k : ℕ) → IsKeyIn o part k → k ≤ greatest_key
@@ -122,15 +119,9 @@ groups_step o t by action valid may old k = old k
 groups : (o : Opening) (t : Execution) → Valid o t → GroupsInPart o t
 groups o [] valid k =
     ⊎_elim
-    (λ (large : greatest_key < k). inr (large, rw (lt-leb k greatest_key large) refl))
+    (λ (large : greatest_key < k). inr (large, opening_group-beyond o k large))
     (λ (small : k ≤ greatest_key).
-    let part : ℕ = part_with (shape o).bounds k in
-    inl (
-      small,
-      first_group_for-exists (shape o) k (some_group o) small,
-      ap (part_of o) (first_group_for-key (shape o) k small)
-          ∙ first_group-part (shape o) part (some_group o),
-    ))
+    inl (small, opening_group-exists o k small, opening_group-part o k small))
     (cases_lt greatest_key k)
 groups o (e ∷ t) valid k = groups_step o t e.by e.action valid.1 valid.0 (groups o t valid.1) k
 

@@ -11,7 +11,7 @@ use Rattle.index_machine.specs.declared.events.Action.TheVariants.{StoreOpened, 
 use Rattle.index_machine.specs.declared.events.Action.TheVariants.{StoreUnusedGroup, StoreRoot}
 use Rattle.index_machine.specs.declared.opening.Opening.{Opening}
 use Rattle.index_machine.specs.Execution.{Execution}
-use Rattle.index_machine.specs.Openings.{opening_slot, opening_root}
+use Rattle.index_machine.specs.OpeningRoots.{opening_slot, opening_root}
 
 -- ---- phases ----
 

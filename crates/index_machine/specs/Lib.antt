@@ -1,6 +1,8 @@
 pub mod Execution
 pub mod Lists
+pub mod OpeningPlan
 pub mod OpeningRows
+pub mod OpeningRoots
 pub mod Words
 pub mod Lanes
 pub mod Keepers

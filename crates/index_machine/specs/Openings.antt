@@ -1,11 +1,11 @@
 -- What stands when the table is opened.
-use Rattle.std.specs.Prelude.{ℕ, Bool, true, false, cond, ◌==◌, ◌&&◌, nat_lt, Option, Some, None}
+use Rattle.std.specs.Prelude.{ℕ, Bool, true, false, cond, nat_lt, Option, Some, None}
 use Rattle.map_model.specs.Map.{Map}
 use Rattle.index_machine.specs.declared.opening.Opening.{Opening}
-use Rattle.word_layout.specs.Shape.{first_group_of}
 use Rattle.index_machine.specs.Words.{limits, shape}
-use Rattle.index_machine.specs.OpeningRows.{opening_row, place_from, first_group_for}
+use Rattle.index_machine.specs.OpeningRows.{opening_row, place_from}
 use Rattle.index_machine.specs.Forms.{Form, Blank, Unlocked}
+pub use Rattle.index_machine.specs.OpeningRows.{opening_group}
 
 -- the version of a new record
 abbrev pub first_version : Opening → ℕ
@@ -26,21 +26,8 @@ opening_form o place = form_of_row (first_version o) (opening_row o place)
 
 -- the place where the value of a key is at the opening
 abbrev pub opening_live_place : Opening → ℕ → Option ℕ
-opening_live_place o k = place_from (shape o) 0 0 o.rows k
+opening_live_place o k = place_from (shape o) (opening_group o) 0 0 o.rows k
 
 -- whether a key lies from low to high, both included
 abbrev pub within : ℕ → ℕ → ℕ → Bool
 within low k high = cond (nat_lt k low) false (cond (nat_lt high k) false true)
-
--- the group of the chain that answers for a key at the opening; for what is no key, the number
--- behind the last group
-abbrev pub opening_group : Opening → ℕ → ℕ
-opening_group o k = first_group_for (shape o) k
-
--- the group that a slot names at the opening
-abbrev pub opening_slot : Opening → ℕ → ℕ → ℕ → ℕ
-opening_slot o part side i = cond ((side == 0) && (i == 0)) (first_group_of (shape o) part) 0
-
--- a part's root word at the opening: one slot of side 0 is in use
-abbrev pub opening_root : Opening → ℕ → ℕ
-opening_root o part = 2

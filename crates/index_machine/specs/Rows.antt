@@ -4,14 +4,13 @@
 use Rattle.std.specs.Prelude.{◌≡◌, ◌≢◌, ℕ, cond, ◌==◌, Option, Some, None, List, [], ◌∷◌}
 use Rattle.map_model.specs.Map.{key_of}
 use Rattle.word_layout.specs.Places.{rows_from}
-use Rattle.word_layout.specs.Shape.{Shape}
 use Rattle.index_machine.specs.declared.events.Action.{Action}
 use Rattle.index_machine.specs.declared.events.Action.TheVariants.{PopFree, PushFree}
 use Rattle.index_machine.specs.declared.events.Action.TheVariants.{LinkRow, Retire}
 use Rattle.index_machine.specs.declared.events.Action.TheVariants.{StoreRedirect, NewGroup}
 use Rattle.index_machine.specs.declared.opening.Opening.{Opening}
 use Rattle.index_machine.specs.Execution.{Execution}
-use Rattle.index_machine.specs.OpeningRows.{opening_row, first_group_for}
+use Rattle.index_machine.specs.OpeningRows.{opening_row, opening_group}
 use Rattle.index_machine.specs.Words.{limits, shape}
 
 -- ---- whose a place is ----
@@ -39,13 +38,13 @@ emptied group (InArray g k) = cond (g == group) Unused (InArray g k)
 emptied group (InBuffer g k) = InBuffer g k
 
 -- whose a place with this row of the opening is
-abbrev pub role_of_row : Shape → Option (ℕ × ℕ) → Role
-role_of_row s None = Unused
-role_of_row s (Some row) = InArray (first_group_for s row.0) row.0
+abbrev pub role_of_row : Opening → Option (ℕ × ℕ) → Role
+role_of_row o None = Unused
+role_of_row o (Some row) = InArray (opening_group o row.0) row.0
 
 -- whose the place is as the table is opened: all record rows are free
 abbrev pub opening_role : Opening → ℕ → Role
-opening_role o place = role_of_row (shape o) (opening_row o place)
+opening_role o place = role_of_row o (opening_row o place)
 
 -- whose the place is after an action of the hand, where it was this before
 abbrev pub role_after : ℕ → ℕ → Action → Role → Role

@@ -1,7 +1,7 @@
 -- The words that an execution leaves.
 --
 -- The fact to remember: they are the opening words with the stores of the events made in order.
-use Rattle.std.specs.Prelude.{◌==◌, ◌&&◌, ℕ, zero, suc, ◌+◌, cond, nat_lt, Option, Some, None, List, []}
+use Rattle.std.specs.Prelude.{ℕ, zero, suc, ◌+◌, cond, nat_lt, Option, Some, None, List, []}
 use Rattle.std.specs.Prelude.{◌∷◌, length}
 use Rattle.line_window.specs.Line.{error_of}
 use Rattle.rebuild_plan.specs.Plan.{lane_count}
@@ -13,13 +13,11 @@ use Rattle.word_layout.specs.declared.phase.Phase.TheVariants.{Open, Frozen, Ope
 use Rattle.word_layout.specs.declared.state.State.TheVariants.{Redirect, Moved}
 use Rattle.word_layout.specs.Phase.{word_of_phase}
 use Rattle.word_layout.specs.State.{word_of_state}
-use Rattle.word_layout.specs.Shape.{Shape, first_group_of}
-use Rattle.word_layout.specs.Parts.{first_key_of}
+use Rattle.word_layout.specs.Shape.{Shape}
 use Rattle.word_layout.specs.declared.headers.HeaderWord.{HeaderWord}
 use Rattle.word_layout.specs.Layout.{limits_of, shape_of}
 use Rattle.word_layout.specs.Addresses.{row_address}
 use Rattle.word_layout.specs.Places.{next_row}
-use Rattle.word_layout.specs.Root.{word_of_root}
 use Rattle.word_layout.specs.Words.{Word, FreeHead, Root, Epoch, SlotPivot, SlotGroup}
 use Rattle.word_layout.specs.Words.{Header, PlaceWord, same_word}
 use Rattle.index_machine.specs.declared.events.Action.{Action}
@@ -41,7 +39,8 @@ use Rattle.index_machine.specs.declared.events.InstallWord.TheVariants.{NextOf, 
 use Rattle.index_machine.specs.declared.opening.Opening.{Opening}
 use Rattle.index_machine.specs.Execution.{Execution}
 use Rattle.index_machine.specs.OpeningRows.{opening_row, key_word, value_word, row_state_word}
-use Rattle.index_machine.specs.OpeningRows.{is_in_opening_chain, opening_pivot, opening_keys}
+use Rattle.index_machine.specs.OpeningRows.{is_in_opening_chain, opening_pivot, opening_next, opening_keys}
+use Rattle.index_machine.specs.OpeningRoots.{opening_root, opening_slot, opening_slot_pivot}
 
 -- the limits of the table
 abbrev pub limits : Opening → Limits
@@ -125,21 +124,21 @@ opening_header o group header.Lanes =
     cond (is_in_opening_chain o group) (lane_count (length (opening_keys o group))) 0
 opening_header o group (header.Cut lane) =
     cond (is_in_opening_chain o group) (opening_cut (opening_pivot o group) (opening_keys o group) lane) 0
+opening_header o group header.Next = opening_next o group
 opening_header o group _ = 0
 
 -- a word of the table as it is opened
 --
--- All record rows are on the free stack, row 0 first. Every caller is outside. Each part's root has one slot in use,
--- on side 0. That slot has the part's least key and names its first group. The array of that group has the part's
+-- All record rows are on the free stack, row 0 first. Every caller is outside. Each part's rows are in its first
+-- groups, as many as were planned for them, and these are chained by their next words. The slots of the part's root
+-- that are in use are on side 0, and name groups of this chain at equal steps. The array of a group has the group's
 -- rows. Its buffer has the lanes that the plan cuts for them.
 abbrev pub opening_word : Opening → Word → ℕ
 opening_word o FreeHead = row_address (shape o) 0
-opening_word o (Root part) = word_of_root 1 0
+opening_word o (Root part) = opening_root o part
 opening_word o (Epoch caller) = 0
-opening_word o (SlotPivot part side i) =
-    cond ((side == 0) && (i == 0)) (first_key_of (shape o).bounds part) 0
-opening_word o (SlotGroup part side i) =
-    cond ((side == 0) && (i == 0)) (first_group_of (shape o) part) 0
+opening_word o (SlotPivot part side i) = opening_slot_pivot o part side i
+opening_word o (SlotGroup part side i) = opening_slot o part side i
 opening_word o (Header group which) = opening_header o group which
 opening_word o (PlaceWord place Key) = key_word (opening_row o place)
 opening_word o (PlaceWord place Value) = value_word (opening_row o place)

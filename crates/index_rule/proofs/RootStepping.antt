@@ -6,7 +6,7 @@ use Rattle.index_machine.specs.declared.events.Action.TheVariants.{LoadRoot, Loa
 use Rattle.index_machine.specs.Sections.{IsReading}
 use Rattle.index_machine.specs.Rows.{InArray, role}
 use Rattle.index_machine.specs.Groups.{IsInUse, root, slot}
-use Rattle.index_machine.specs.Openings.{opening_root, opening_slot}
+use Rattle.index_machine.specs.OpeningRoots.{opening_root, opening_slot}
 use Rattle.index_machine.specs.Reaching.{SeesSlot, root_seen, root_seen_after, stands_in}
 use Rattle.index_machine.specs.Reaching.{stands_in_after}
 use Rattle.index_machine.specs.RecordConditions.{IsAt}

@@ -17,10 +17,12 @@ use Rattle.index_machine.specs.Words.{shape, limits}
 use Rattle.index_machine.specs.Sections.{IsReading}
 use Rattle.index_machine.specs.Keepers.{IsPart, IsPartKeeper}
 use Rattle.index_machine.specs.Groups.{root}
+use Rattle.index_machine.specs.OpeningRoots.{opening_slots}
 use Rattle.index_machine.specs.Reaching.{SeesSlot, root_seen, root_seen_after}
 use Rattle.index_machine.specs.RebuildConditions.{MayReadSlot}
 use Rattle.index_machine.specs.Conditions.{Allowed, Valid}
 use Rattle.index_machine.proofs.Executions.{ChangesOwnOnly, own_on}
+use Rattle.index_machine.proofs.OpeningGroups.{opening_slots-few}
 use Rattle.index_machine.proofs.RepresentingAll.{represented}
 use Rattle.index_rule.specs.declared.board.Board.{Board}
 use Rattle.index_rule.specs.declared.hand.Hand.{Hand}
@@ -50,8 +52,7 @@ root_step o part t b (StoreRoot p stored) may old = chosen (p == part)
 root_step o part t b d may old = old
 
 root_names : (o : Opening) (part : ℕ) (t : Execution) → Valid o t → NamesSlots o (root o part t)
-root_names o part [] valid =
-    let least = o.layout.kept.least_slots in (1, 0, refl, omega arith, least)
+root_names o part [] valid = (opening_slots o part, 0, refl, omega arith, opening_slots-few o part)
 root_names o part (e ∷ t) valid =
     root_step o part t e.by e.action valid.0 (root_names o part t valid.1)
 

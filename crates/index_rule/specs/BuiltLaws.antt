@@ -7,7 +7,8 @@ use Rattle.index_machine.specs.Execution.{Execution}
 use Rattle.index_machine.specs.Forms.{Form, Blank, Unlocked, Locked}
 use Rattle.index_machine.specs.Groups.{phase, root, slot}
 use Rattle.index_machine.specs.KeyRanges.{group_of, successor}
-use Rattle.index_machine.specs.Openings.{opening_group, opening_root, opening_slot}
+use Rattle.index_machine.specs.OpeningRoots.{opening_root, opening_slot}
+use Rattle.index_machine.specs.Openings.{opening_group}
 use Rattle.index_machine.specs.Places.{form}
 use Rattle.index_machine.specs.Rows.{InArray, InBuffer, role, opening_role}
 use Rattle.index_machine.specs.Conditions.{Valid}

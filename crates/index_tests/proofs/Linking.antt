@@ -91,14 +91,14 @@ module _ (b : Board) (h r s : Hand) (number root group : ℕ) (inside : IsInside
       record {
         allowed = inl (in_group_s.search.call.reading, in_group_s.search.stands);
         true_word = true_of_keys o (known s) valid 0
-            (inl (0, of_group_zero b 0 (known s) inside.one_part built (omega arith)));
+            (inl (0, of_group_zero b 0 (known s) inside.one_group built (omega arith)));
       }
 
   module _ (p : Hand) (found : ℕ) (looks : Makes b s (LoadPhase 0 found) p) where
     in_group_p : IsInGroup b number p
     in_group_p =
         record {
-          one_part = inside.one_part;
+          one_group = inside.one_group;
           numbered = looks.number ∙ in_group_s.numbered;
           search = search_after b 0 s p (LoadPhase 0 found) tt (λ z. z) looks in_group_s.search;
         }
@@ -142,7 +142,7 @@ module _ (b : Board) (h r s : Hand) (number root group : ℕ) (inside : IsInside
               since = refl;
               stays = tt;
               stands = in_group_p.search.stands;
-              of_key = of_group_zero b key (known p) inside.one_part built most;
+              of_key = of_group_zero b key (known p) inside.one_group built most;
             };
             seen = sees_open;
             array = none_in_array b key (known p) without valid built;
@@ -180,7 +180,7 @@ carries_on b number key place h k on has search before =
     let whole : Valid o (on.newer ++ known h) = subst (Valid o) (sym on.on) on.valid in
     record {
       in_group = record {
-        one_part = before.in_group.one_part;
+        one_group = before.in_group.one_group;
         numbered = on.number ∙ before.in_group.numbered;
         search = search;
       };

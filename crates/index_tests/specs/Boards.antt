@@ -1,10 +1,11 @@
 -- What the tests say of their boards and hands.
 --
--- The fact to remember: these boards have one part, so it has all keys, and group 0 is its first group.
+-- The fact to remember: these boards have one part, which has one group at the opening, so group 0 has all keys.
 use Rattle.std.specs.Prelude.{◌≡◌, ℕ, []}
 use Rattle.map_model.specs.Map.{Map}
 use Rattle.word_layout.specs.declared.limits.Limits.{Limits}
 use Rattle.index_machine.specs.Conditions.{MayLeave}
+use Rattle.index_machine.specs.OpeningRows.{opening_count}
 use Rattle.index_machine.specs.Rows.{HoldsNone}
 use Rattle.index_machine.specs.Sections.{IsOutside}
 use Rattle.index_machine.specs.Words.{limits, shape}
@@ -12,21 +13,22 @@ use Rattle.index_rule.specs.declared.board.Board.{Board}
 use Rattle.index_rule.specs.declared.hand.Hand.{Hand}
 use Rattle.index_rule.specs.Hands.{IsHandOf, known, opening_of}
 
--- the board has one part
-abbrev pub HasOnePart : Board → Type 0
-HasOnePart b = (shape (opening_of b)).bounds ≡ []
+-- the board has one part, which was opened with one group
+pub record HasOneGroup (b : Board) : Type 0 where
+  pub one_part : (shape (opening_of b)).bounds ≡ []
+  pub one : opening_count (opening_of b) 0 ≡ 1
 
--- the board was opened with so many callers and groups, with one part, and with these rows
+-- the board was opened with so many callers and groups, with one group in use, and with these rows
 pub record IsNewBoard (l : Limits) (opened : Map) (b : Board) : Type 0 where
   pub callers : (limits (opening_of b)).callers ≡ l.callers
   pub groups : (limits (opening_of b)).groups ≡ l.groups
-  pub one_part : HasOnePart b
+  pub one_group : HasOneGroup b
   pub rows : (opening_of b).rows ≡ opened
 
 -- the hand with this number rests outside of any read section
 pub record Rests (b : Board) (number : ℕ) (h : Hand) : Type 0 where
   pub of : IsHandOf b h
-  pub one_part : HasOnePart b
+  pub one_group : HasOneGroup b
   pub numbered : h.number ≡ number
   pub outside : IsOutside h.number (known h)
 
@@ -38,7 +40,7 @@ pub record RestsWithNoRow (b : Board) (number : ℕ) (h : Hand) : Type 0 where
 -- the caller with this number is inside its read section, and may leave it
 pub record IsInside (b : Board) (number : ℕ) (h : Hand) : Type 0 where
   pub of : IsHandOf b h
-  pub one_part : HasOnePart b
+  pub one_group : HasOneGroup b
   pub numbered : h.number ≡ number
   pub may_leave : MayLeave (opening_of b) h.number (known h)
 

@@ -13,7 +13,7 @@ use Rattle.index_rule.specs.Elsewhere.{HasNoneWhereSeenOpen}
 use Rattle.index_rule.specs.Hands.{known, opening_of}
 use Rattle.delta_buffer.specs.Inserting.{CanInsert}
 use Rattle.sorted_group.specs.Standing.{CanSearch}
-use Rattle.index_tests.specs.Boards.{HasOnePart}
+use Rattle.index_tests.specs.Boards.{HasOneGroup}
 
 -- the board was opened without a row of the key
 abbrev pub OpensWithout : Board → ℕ → Type 0
@@ -21,7 +21,7 @@ OpensWithout b key = look (opening_of b).rows key ≡ None
 
 -- the caller with this number came to group 0, and can search its buffer
 pub record IsInGroup (b : Board) (number : ℕ) (h : Hand) : Type 0 where
-  pub one_part : HasOnePart b
+  pub one_group : HasOneGroup b
   pub numbered : h.number ≡ number
   pub search : CanSearch b 0 h
 

@@ -1,19 +1,20 @@
 //! The boards and hands that the tests stand on.
-ghost use Rattle.std.specs.Prelude.{◌≡◌, ◌+◌, ◌≤◌, length};
+ghost use Rattle.std.specs.Prelude.{◌≡◌, ◌+◌, ◌*◌, ◌≤◌, length};
 ghost use Rattle.std.specs.Vec.Iter.{into_iter_items};
 ghost use Rattle.map_model.specs.Map.{IsRising};
+ghost use Rattle.rebuild_plan.specs.Plan.{fill_limit};
 ghost use Rattle.index_machine.specs.Rows.{HoldsNone};
 ghost use Rattle.index_machine.specs.Sections.{IsCaller};
 ghost use Rattle.index_machine.specs.Words.{limits};
 ghost use Rattle.index_rule.specs.Hands.{known, opening_of};
 ghost use Rattle.index_rule.specs.Opened.{AreNewHands};
-ghost use Rattle.index_tests.specs.Boards.{HasOnePart, IsInside, IsNewBoard, Rests, RestsWithNoRow};
+ghost use Rattle.index_tests.specs.Boards.{HasOneGroup, IsInside, IsNewBoard, Rests, RestsWithNoRow};
 
 use index_rule::{Board, Hand};
 use std::alloc::Global;
 use std::process::Abort;
 use std::vec::IntoIter;
-use word_layout::Limits;
+use word_layout::{Limits, Parts};
 
 /// The limits of a small board for three callers.
 pub(crate) const SMALL: Limits = Limits {
@@ -28,7 +29,7 @@ pub(crate) const SMALL: Limits = Limits {
     first_version: 0,
 };
 
-/// A board of one part with these rows, and its hands.
+/// A board of one part with these rows, which fit into one group, and its hands.
 pub(crate) fn opened(
     rt: &impl Abort,
     alloc: Global,
@@ -36,7 +37,7 @@ pub(crate) fn opened(
     rows: &[(u64, u64)],
 ) -> (Board, IntoIter<Hand>)
     requires rising { IsRising rows.now }
-    requires few { length rows.now ≤ limits.group_size }
+    requires few { length rows.now ≤ fill_limit limits.group_size }
     ensures board { IsNewBoard limits rows.now result.0 }
     ensures hands { AreNewHands result.0 0 (into_iter_items result.1) }
 {
@@ -56,7 +57,7 @@ pub(crate) fn next_hand(
     _number: u32,
     hands: &mut IntoIter<Hand>,
 ) -> Hand
-    requires one_part { HasOnePart _board.now }
+    requires one_group { HasOneGroup _board.now }
     requires hands { AreNewHands _board.now _number (into_iter_items hands.old) }
     ensures rests { RestsWithNoRow _board.now _number result }
     ensures others { AreNewHands _board.now (_number + 1) (into_iter_items hands.new) }
@@ -102,6 +103,29 @@ pub(crate) fn closed(
 {
     let (first, second, third) = callers;
     let Ok(hands) = vec![in alloc; first, second, third, keeper] else {
+        panic!(rt; "there is memory");
+    };
+    let Ok(words) = board.close(alloc, hands) else {
+        panic!(rt; "there is memory");
+    };
+    words
+}
+
+/// The words of a board with these limits, parts and rows that is closed as it was opened.
+pub(crate) fn words_of(
+    rt: &impl Abort,
+    alloc: Global,
+    limits: Limits,
+    parts: Parts,
+    rows: &[(u64, u64)],
+) -> Vec<u64>
+    requires rising { IsRising rows.now }
+    requires few { length rows.now ≤ limits.groups * fill_limit limits.group_size }
+{
+    let Ok(layout) = limits.layout_in(parts) else {
+        panic!(rt; "the limits are kept");
+    };
+    let Ok((board, hands)) = Board::open(alloc, &layout, rows) else {
         panic!(rt; "there is memory");
     };
     let Ok(words) = board.close(alloc, hands) else {

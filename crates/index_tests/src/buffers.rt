@@ -4,7 +4,7 @@ ghost use Rattle.index_machine.specs.Sections.{IsCaller};
 ghost use Rattle.index_machine.specs.Keepers.{IsPartKeeper};
 ghost use Rattle.index_rule.specs.Hands.{IsHandOf, opening_of};
 ghost use Rattle.index_rule.specs.OwnRows.{place_of_private};
-ghost use Rattle.index_tests.specs.Boards.{HasOnePart, IsInside, Rests, RestsWithNoRow};
+ghost use Rattle.index_tests.specs.Boards.{HasOneGroup, IsInside, Rests, RestsWithNoRow};
 ghost use Rattle.index_tests.specs.Buffers.{CanLink, HasComeToLink, HasRowFor, IsInGroup};
 ghost use Rattle.index_tests.specs.Buffers.{OpensWithout};
 
@@ -101,7 +101,7 @@ pub(crate) fn count_of_caller(board: &Board, _number: u32, hand: &mut Hand) -> u
 /// How many rows the keeper counts, which has to know first that group 0 is in use.
 pub(crate) fn count_of_keeper(board: &Board, keeper: &mut Hand) -> u32
     requires hand { IsHandOf board.now keeper.old }
-    requires one_part { HasOnePart board.now }
+    requires one_group { HasOneGroup board.now }
     requires number { IsPartKeeper (opening_of board.now) keeper.old.number 0 }
 {
     board.load_root(keeper, 0);

@@ -2,40 +2,19 @@
 ghost use Rattle.std.specs.Prelude.{◌≤◌, length};
 ghost use Rattle.map_model.specs.Map.{IsRising};
 
-use crate::boards::{SMALL, assert_words};
+use crate::boards::{SMALL, assert_words, words_of};
 use index_rule::Board;
 use std::alloc::Global;
 use std::process::Abort;
 use std::test::Fail;
-use word_layout::Limits;
+use word_layout::{Limits, Parts};
 
 fn may_move_to_another_thread<T: Send>(_value: &T) {}
 
 fn may_be_shared_by_threads<T: Sync>(_value: &T) {}
 
-// The words of a small board with these rows and this first version, as it is closed at once.
-fn words_of(rt: &impl Abort, alloc: Global, first_version: u64, rows: &[(u64, u64)]) -> Vec<u64>
-    requires rising { IsRising rows.now }
-    requires few { length rows.now ≤ 8 }
-{
-    let limits = Limits {
-        first_version,
-        ..SMALL
-    };
-    let Ok(layout) = limits.layout() else {
-        panic!(rt; "the limits are kept");
-    };
-    let Ok((board, hands)) = Board::open(alloc, &layout, rows) else {
-        panic!(rt; "there is memory");
-    };
-    let Ok(words) = board.close(alloc, hands) else {
-        panic!(rt; "there is memory");
-    };
-    words
-}
-
-// Asserts which words the header of group 0 has, where its array has these rows: the size, the line's error and
-// the number of lanes, and the cuts. All others are 0.
+// Asserts which words the header of group 0 has, whose array of 11 places has these rows: the size, the line's error
+// and the number of lanes, and the cuts. All others are 0.
 fn assert_header(
     rt: &impl Abort,
     alloc: Global,
@@ -46,7 +25,11 @@ fn assert_header(
     requires rising { IsRising rows.now }
     requires few { length rows.now ≤ 8 }
 {
-    let words = words_of(rt, alloc, 0, rows);
+    let limits = Limits {
+        group_size: 11,
+        ..SMALL
+    };
+    let words = words_of(rt, alloc, limits, Parts::whole(), rows);
     assert_eq!(rt; words.get(9), Some(&0));
     assert_words(rt, words.get(10..13), &sizes);
     assert_words(rt, words.get(13..17), &[0; 4]);
@@ -86,7 +69,11 @@ fn a_new_board_hands_out_its_opening_words(rt: HostRuntime) -> Result<(), Fail> 
 #[test]
 fn a_board_with_rows_hands_out_their_words_too(rt: HostRuntime) {
     for first_version in [0, 3] {
-        let words = words_of(&rt, rt.alloc(), first_version, &[(5, 50), (7, 70)]);
+        let limits = Limits {
+            first_version,
+            ..SMALL
+        };
+        let words = words_of(&rt, rt.alloc(), limits, Parts::whole(), &[(5, 50), (7, 70)]);
         assert_eq!(rt; words.len(), 129);
         // Key, value, state and link of the first two places of the array of group 0.
         let state = 16 * first_version;

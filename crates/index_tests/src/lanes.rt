@@ -1,6 +1,7 @@
 //! The buffer of a board that was opened with rows has lanes, and a row is linked into that of its key alone.
 ghost use Rattle.std.specs.Prelude.{◌≡◌, ◌≤◌, length};
 ghost use Rattle.map_model.specs.Map.{IsRising};
+ghost use Rattle.rebuild_plan.specs.Plan.{fill_limit};
 ghost use Rattle.index_machine.specs.Sections.{IsCaller};
 ghost use Rattle.index_rule.specs.Hands.{opening_of};
 ghost use Rattle.index_tests.specs.Boards.{Rests, RestsWithNoRow};
@@ -61,7 +62,7 @@ fn assert_lanes_of(
 )
     requires callers { limits.callers ≡ 3 }
     requires rising { IsRising rows.now }
-    requires few { length rows.now ≤ limits.group_size }
+    requires few { length rows.now ≤ fill_limit limits.group_size }
 {
     let (board, mut hands) = opened(rt, alloc, limits, rows);
     let mut hand = next_hand(rt, &board, 0, &mut hands);

@@ -7,7 +7,7 @@ ghost use Rattle.xindex_core.specs.OneOrder.{IsPassOfCaller};
 ghost use Rattle.xindex_core.specs.Opened.{IsNewlyOpenedIn};
 ghost use Rattle.xindex_core.specs.Passes.{AreNewKeepers, IsPassOf, bounds_of_index, limits_of_index};
 
-use crate::boards::{SMALL, assert_words};
+use crate::boards::{SMALL, assert_words, words_of};
 use crate::closed_indexes::{put, remove};
 use crate::indexes::next_pass;
 use index_rule::{Board, Hand};
@@ -202,14 +202,11 @@ fn a_caller_comes_to_the_group_of_a_key_by_the_root_of_its_part(
     Ok(())
 }
 
+// ---- the words of a board as it is opened ----
+
 #[test]
 fn the_rows_of_each_part_stand_in_its_first_group(rt: HostRuntime) -> Result<(), Fail> {
-    let layout = SMALL.layout_in(Parts::of(&[BOUND])?)?;
-    let (board, hands) = Board::open(rt.alloc(), &layout, &ROWS)?;
-    let words = match board.close(rt.alloc(), hands) {
-        Ok(words) => words,
-        Err(_kept) => Vec::new(rt.alloc()),
-    };
+    let words = words_of(&rt, rt.alloc(), SMALL, Parts::of(&[BOUND])?, &ROWS);
     // The root words, the first slot of each root with its pivot and group, and an array's first place each.
     assert_words(&rt, words.get(1..3), &[2, 2]);
     assert_words(&rt, words.get(6..8), &[0, 0]);
@@ -217,4 +214,51 @@ fn the_rows_of_each_part_stand_in_its_first_group(rt: HostRuntime) -> Result<(),
     assert_words(&rt, words.get(38..42), &[5, 50, 0, 0]);
     assert_words(&rt, words.get(150..154), &[150, 70, 0, 0]);
     Ok(())
+}
+
+// The limits of a board whose part has four groups, and two slots for them.
+const WIDE: Limits = Limits {
+    groups: 4,
+    slots: 2,
+    ..SMALL
+};
+
+// More rows than two groups are given.
+const THIRTEEN: [(u64, u64); 13] = [
+    (10, 1),
+    (20, 2),
+    (30, 3),
+    (40, 4),
+    (50, 5),
+    (60, 6),
+    (70, 7),
+    (80, 8),
+    (90, 9),
+    (100, 10),
+    (110, 11),
+    (120, 12),
+    (130, 13),
+];
+
+#[test]
+fn many_rows_are_shared_out_among_the_first_groups_of_a_part(rt: HostRuntime) {
+    let words = words_of(&rt, rt.alloc(), WIDE, Parts::whole(), &THIRTEEN);
+    // The root word, and the pivots and groups of its two slots.
+    assert_words(&rt, words.get(1..2), &[4]);
+    assert_words(&rt, words.get(5..9), &[0, 0, 110, 2]);
+    // Each header's pivot, size, line error, number of lanes, phase and next word.
+    let headers = [
+        (13, [0, 5, 0, 5, 0, 2]),
+        (69, [60, 5, 0, 5, 0, 3]),
+        (125, [110, 3, 0, 3, 0, 0]),
+        (181, [0, 0, 0, 0, 0, 0]),
+    ];
+    for (at, header) in headers {
+        assert_words(&rt, words.get(at..at + 6), &header);
+    }
+    // The first place of each array, and the place behind the last row.
+    assert_words(&rt, words.get(37..41), &[10, 1, 0, 0]);
+    assert_words(&rt, words.get(93..97), &[60, 6, 0, 0]);
+    assert_words(&rt, words.get(149..153), &[110, 11, 0, 0]);
+    assert_words(&rt, words.get(161..165), &[0, 0, 0, 0]);
 }

@@ -4,7 +4,7 @@ ghost use Rattle.index_machine.specs.Sections.{IsCaller};
 ghost use Rattle.index_rule.specs.Hands.{IsHandOf, known, opening_of};
 ghost use Rattle.index_rule.specs.Records.{MayRelease};
 ghost use Rattle.record_cell.specs.Finding.{IsReadyAt};
-ghost use Rattle.index_tests.specs.Boards.{HasOnePart, Rests};
+ghost use Rattle.index_tests.specs.Boards.{HasOneGroup, Rests};
 ghost use Rattle.index_tests.specs.Records.{HasRow};
 
 use crate::boards::{SMALL, enter, next_hand, opened};
@@ -18,7 +18,7 @@ pub(crate) const ROWS: [(u64, u64); 3] = [(5, 50), (6, 60), (7, 70)];
 
 /// Where the row with this number stands.
 pub(crate) fn place_of(board: &Board, number: u32) -> u32
-    requires one_part { HasOnePart board.now }
+    requires one_group { HasOneGroup board.now }
     requires row { number < length (opening_of board.now).rows }
     ensures { HasRow board.now result }
 {

@@ -8,12 +8,15 @@ use mathlib.Core.Logic.{dite}
 use native.Mathlib.Decide.{ℕ_discrete}
 use Rattle.index_machine.proofs.Executions.{choice-other, choice-same}
 use Rattle.index_machine.proofs.OfParts.{group_exists, key_in_part}
-use Rattle.index_machine.proofs.OpeningGroups.{opening_keys-group, opening_keys-rise}
-use Rattle.index_machine.proofs.OpeningRows.{GoesOn, first_group_for-monotone, from_all}
+use Rattle.index_machine.proofs.OpeningGroups.{opening_keys-rise}
+use Rattle.index_machine.proofs.OpeningKeys.{keys_for-other, keys_for-same}
+use Rattle.index_machine.proofs.OpeningPlan.{opening_keys-fit, opening_keys-group}
+use Rattle.index_machine.proofs.OpeningRows.{GoesOn, goes_on, goes_on-first, index_first, next_other, next_same}
 use Rattle.index_machine.proofs.OpeningRows.{opening_role-array, opening_row-key, opening_row-one}
 use Rattle.index_machine.proofs.OpeningRows.{seats_apart}
 use Rattle.index_machine.specs.Keepers.{IsKeyIn, part_of}
-use Rattle.index_machine.specs.OpeningRows.{first_group_for, index_behind, keys_for, opening_keys}
+use Rattle.index_machine.specs.OpeningPlan.{keys_for}
+use Rattle.index_machine.specs.OpeningRows.{index_behind, opening_keys}
 use Rattle.index_machine.specs.OpeningRows.{opening_row, row_from}
 use Rattle.index_machine.specs.Openings.{opening_group}
 use Rattle.index_machine.specs.RebuildConditions.{HasKeysFrom, IsSized}
@@ -41,67 +44,22 @@ none_row e = cc
 some_row : {r q : ℕ × ℕ} → Some r ≡ Some q → r ≡ q
 some_row e = cc
 
-goes_on : (s : Shape) (last : ℕ) (q : ℕ × ℕ) (rows : Map) → GoesOn s last (q ∷ rows) →
-    GoesOn s (first_group_for s q.0) rows
-goes_on s last q rows on = record {
-  rising = on.rising.1;
-  behind = from_all (λ (r : ℕ × ℕ). q.0 < r.0)
-      (λ (r : ℕ × ℕ). first_group_for s q.0 ≤ first_group_for s r.0) rows
-      (λ r less. first_group_for-monotone s q.0 r.0 (omega (arith, less))) on.rising.0;
-}
-
-goes_on-first : (o : Opening) → GoesOn (shape o) 0 o.rows
-goes_on-first o = record {
-  rising = o.rising;
-  behind = from_all (λ (r : ℕ × ℕ). r.0 < 2 ^ 64)
-      (λ (r : ℕ × ℕ). 0 ≤ first_group_for (shape o) r.0) o.rows (λ r _. omega arith) o.keys;
-}
-
--- the next row's index is no greater than what is filled so far
-index_most : (last filled g : ℕ) → index_behind last filled g ≤ filled
-index_most last filled g = dite (ℕ_discrete g last)
-    (λ (z : g ≡ last). let is = choice-same g last filled 0 z in omega (arith, is))
-    (λ (n : g ≢ last). let is = choice-other g last filled 0 n in omega (arith, is))
-
--- an array is filled from index 0 on
-index_first : (g : ℕ) → index_behind 0 0 g ≡ 0
-index_first g = go (g == 0)
-  where
-    go : (w : Bool) → cond {A = ℕ} w 0 0 ≡ 0
-    go true = refl
-    go false = refl
-
--- a group has no more keys than there are rows
-few_for : (s : Shape) (g : ℕ) (rows : Map) → length (keys_for s g rows) ≤ length rows
-few_for s g [] = omega arith
-few_for s g (q ∷ rs) =
-    let rest : List ℕ = keys_for s g rs in
-    let few = few_for s g rs in
-    dite (ℕ_discrete (first_group_for s q.0) g)
-    (λ (z : first_group_for s q.0 ≡ g).
-    let is = ap length (choice-same (first_group_for s q.0) g (q.0 ∷ rest) rest z) in
-    omega (arith, is, few))
-    (λ (n : first_group_for s q.0 ≢ g).
-    let is = ap length (choice-other (first_group_for s q.0) g (q.0 ∷ rest) rest n) in
-    omega (arith, is, few))
-
--- and none of rows that go on behind it
-none_for : (s : Shape) (last g : ℕ) (rows : Map) → g < last →
-    AllByRecursion (λ (r : ℕ × ℕ). last ≤ first_group_for s r.0) rows → keys_for s g rows ≡ []
-none_for s last g [] lt all = refl
-none_for s last g (q ∷ rs) lt all =
+-- of rows that go on behind a group it has none
+none_for : (of : ℕ → ℕ) (last g : ℕ) (rows : Map) → g < last →
+    AllByRecursion (λ (r : ℕ × ℕ). last ≤ of r.0) rows → keys_for of g rows ≡ []
+none_for of last g [] lt all = refl
+none_for of last g (q ∷ rs) lt all =
     let first = all.0 in
-    choice-other (first_group_for s q.0) g (q.0 ∷ keys_for s g rs) (keys_for s g rs)
-    (λ z. absurd (omega (arith, lt, first, z)))
-    ∙ none_for s last g rs lt all.1
+    keys_for-other of g q rs (λ z. absurd (omega (arith, lt, first, z)))
+    ∙ none_for of last g rs lt all.1
 
 -- ---- where a row stands ----
 
 -- where the first of the rows stands, and where those behind it do
-module _ (s : Shape) (last filled g : ℕ) (q : ℕ × ℕ) (rs : Map) (on : GoesOn s last (q ∷ rs))
-    (fits : filled + length (q ∷ rs) ≤ s.limits.group_size) where
+module _ (s : Shape) (of : ℕ → ℕ) (last filled g : ℕ) (q : ℕ × ℕ) (rs : Map)
+    (on : GoesOn s of last filled (q ∷ rs)) where
   abbrev group : ℕ
-  group = first_group_for s q.0
+  group = of q.0
 
   abbrev i : ℕ
   i = index_behind last filled group
@@ -114,121 +72,113 @@ module _ (s : Shape) (last filled g : ℕ) (q : ℕ × ℕ) (rs : Map) (on : Goe
 
   abbrev Each : List ℕ → Type 0
   Each keys = (n : ℕ) → n < length keys →
-      (x : ℕ) × (row_from s last filled (q ∷ rs) (place n) ≡ Some (slice_index keys n, x))
+      (x : ℕ) × (row_from s of last filled (q ∷ rs) (place n) ≡ Some (slice_index keys n, x))
 
   abbrev EachBehind : List ℕ → Type 0
   EachBehind keys = (n : ℕ) → n < length keys →
-      (x : ℕ) × (row_from s group (i + 1) rs (array_address s g (index_behind group (i + 1) g + n))
+      (x : ℕ) × (row_from s of group (i + 1) rs (array_address s g (index_behind group (i + 1) g + n))
       ≡ Some (slice_index keys n, x))
 
   -- a row behind the first, which stands elsewhere
   behind : (n j k : ℕ) → array_address s group i ≢ place n → base + n ≡ j →
-      (x : ℕ) × (row_from s group (i + 1) rs (array_address s g j) ≡ Some (k, x)) →
-      (x : ℕ) × (row_from s last filled (q ∷ rs) (place n) ≡ Some (k, x))
+      (x : ℕ) × (row_from s of group (i + 1) rs (array_address s g j) ≡ Some (k, x)) →
+      (x : ℕ) × (row_from s of last filled (q ∷ rs) (place n) ≡ Some (k, x))
   behind n j k other same row = (
     row.0,
-    choice-other (array_address s group i) (place n) (Some q) (row_from s group (i + 1) rs (place n))
+    choice-other (array_address s group i) (place n) (Some q) (row_from s of group (i + 1) rs (place n))
         other
-        ∙ ap (λ (y : ℕ). row_from s group (i + 1) rs (array_address s g y)) same
+        ∙ ap (λ (y : ℕ). row_from s of group (i + 1) rs (array_address s g y)) same
         ∙ row.1,
   )
 
   -- the first is the group's
-  here : group ≡ g → EachBehind (keys_for s g rs) → Each (q.0 ∷ keys_for s g rs)
+  here : group ≡ g → EachBehind (keys_for of g rs) → Each (q.0 ∷ keys_for of g rs)
   here z rest zero lt = (
     q.1,
-    choice-same (array_address s group i) (place zero) (Some q) (row_from s group (i + 1) rs (place zero))
+    choice-same (array_address s group i) (place zero) (Some q)
+        (row_from s of group (i + 1) rs (place zero))
         (ap (λ (y : ℕ). array_address s y (index_behind last filled y)) z
         ∙ ap (array_address s g) (omega arith)),
   )
   here z rest (suc m) lt =
       let first : i ≡ base = ap (index_behind last filled) z in
-      let next = choice-same g group (i + 1) 0 (sym z) in
+      let next = (next_same of last filled g q rs z).0 in
       let other : array_address s group i ≢ place (suc m) =
       λ e. let bad = one_index s g base (base + suc m)
       (ap (λ (y : ℕ). array_address s y (index_behind last filled y)) (sym z) ∙ e) in
       omega (arith, bad)
       in
-      behind (suc m) (index_behind group (i + 1) g + m) (slice_index (keys_for s g rs) m) other
+      behind (suc m) (index_behind group (i + 1) g + m) (slice_index (keys_for of g rs) m) other
       (omega (arith, first, next)) (rest m (omega (arith, lt)))
 
   -- the first is another group's
-  later : group ≢ g → EachBehind (keys_for s g rs) → Each (keys_for s g rs)
+  later : group ≢ g → EachBehind (keys_for of g rs) → Each (keys_for of g rs)
   later differ rest n lt = dite (ℕ_discrete g last)
       (λ (z : g ≡ last).
       let ahead = on.behind.0 in
-      let none = ap length (none_for s group g rs (omega (arith, z, ahead, differ))
-      (goes_on s last q rs on).behind) in
+      let none = ap (λ (y : List ℕ). length y) (none_for of group g rs (omega (arith, z, ahead, differ))
+      (goes_on s of last filled q rs on).behind) in
       absurd (omega (arith, none, lt)))
       (λ (apart : g ≢ last).
       let now = choice-other g last filled 0 apart in
-      let next = choice-other g group (i + 1) 0 (λ z. differ (sym z)) in
-      let few = few_for s g rs in
-      let most = index_most last filled group in
-      behind n (index_behind group (i + 1) g + n) (slice_index (keys_for s g rs) n)
-      (λ e. differ (seats_apart s group g i (base + n) (omega (arith, fits, most))
-      (omega (arith, fits, now, few, lt)) e).0)
-      (omega (arith, now, next)) (rest n lt))
+      let next = next_other of last filled g q rs differ in
+      let room = on.room g in
+      let own = next_same of last filled group q rs refl in
+      let own_room = on.room group in
+      behind n (index_behind group (i + 1) g + n) (slice_index (keys_for of g rs) n)
+      (λ e. differ (seats_apart s group g i (base + n) (omega (arith, own.1, own_room))
+      (omega (arith, now, next.1, room, lt)) e).0)
+      (omega (arith, now, next.0)) (rest n lt))
 
-  rows_step : EachBehind (keys_for s g rs) → Each (keys_for s g (q ∷ rs))
+  rows_step : EachBehind (keys_for of g rs) → Each (keys_for of g (q ∷ rs))
   rows_step rest = dite (ℕ_discrete group g)
-      (λ (z : group ≡ g).
-      subst Each (sym (choice-same group g (q.0 ∷ keys_for s g rs) (keys_for s g rs) z)) (here z rest))
-      (λ (n : group ≢ g).
-      subst Each (sym (choice-other group g (q.0 ∷ keys_for s g rs) (keys_for s g rs) n))
-      (later n rest))
+      (λ (z : group ≡ g). subst Each (sym (keys_for-same of g q rs z)) (here z rest))
+      (λ (n : group ≢ g). subst Each (sym (keys_for-other of g q rs n)) (later n rest))
 
 -- the row of each of a group's keys stands at the index of the key, behind what is filled so far
-row_at : (s : Shape) (last filled g : ℕ) (rows : Map) → GoesOn s last rows →
-    filled + length rows ≤ s.limits.group_size → (n : ℕ) → n < length (keys_for s g rows) →
-    (x : ℕ) × (row_from s last filled rows (array_address s g (index_behind last filled g + n))
-    ≡ Some (slice_index (keys_for s g rows) n, x))
-row_at s last filled g [] on fits = λ n lt. absurd (omega (arith, lt))
-row_at s last filled g (q ∷ rs) on fits =
-    let i : ℕ = index_behind last filled (first_group_for s q.0) in
-    let most = index_most last filled (first_group_for s q.0) in
-    rows_step s last filled g q rs on fits
-    (row_at s (first_group_for s q.0) (i + 1) g rs (goes_on s last q rs on) (omega (arith, fits, most)))
+row_at : (s : Shape) (of : ℕ → ℕ) (last filled g : ℕ) (rows : Map) → GoesOn s of last filled rows →
+    (n : ℕ) → n < length (keys_for of g rows) →
+    (x : ℕ) × (row_from s of last filled rows (array_address s g (index_behind last filled g + n))
+    ≡ Some (slice_index (keys_for of g rows) n, x))
+row_at s of last filled g [] on = λ n lt. absurd (omega (arith, lt))
+row_at s of last filled g (q ∷ rs) on =
+    rows_step s of last filled g q rs on
+    (row_at s of (of q.0) (index_behind last filled (of q.0) + 1) g rs (goes_on s of last filled q rs on))
 
 -- a row's key is one of its group's
-key_of_row : (s : Shape) (last filled : ℕ) (rows : Map) (place k x : ℕ) →
-    row_from s last filled rows place ≡ Some (k, x) →
-    (n : ℕ) × (n < length (keys_for s (first_group_for s k) rows))
-    × (slice_index (keys_for s (first_group_for s k) rows) n ≡ k)
-key_of_row s last filled [] place k x e = none_row e
-key_of_row s last filled (q ∷ rs) place k x e =
+key_of_row : (s : Shape) (of : ℕ → ℕ) (last filled : ℕ) (rows : Map) (place k x : ℕ) →
+    row_from s of last filled rows place ≡ Some (k, x) →
+    (n : ℕ) × (n < length (keys_for of (of k) rows)) × (slice_index (keys_for of (of k) rows) n ≡ k)
+key_of_row s of last filled [] place k x e = none_row e
+key_of_row s of last filled (q ∷ rs) place k x e =
     go (array_address s group (index_behind last filled group) == place) e
-    (key_of_row s group (index_behind last filled group + 1) rs place k x)
+    (key_of_row s of group (index_behind last filled group + 1) rs place k x)
   where
     group : ℕ
-    group = first_group_for s q.0
+    group = of q.0
 
     g : ℕ
-    g = first_group_for s k
+    g = of k
 
     Has : List ℕ → Type 0
     Has keys = (n : ℕ) × (n < length keys) × (slice_index keys n ≡ k)
 
-    kept : Has (keys_for s g rs) → Has (keys_for s g (q ∷ rs))
+    kept : Has (keys_for of g rs) → Has (keys_for of g (q ∷ rs))
     kept has = dite (ℕ_discrete group g)
         (λ (z : group ≡ g).
-        subst Has (sym (choice-same group g (q.0 ∷ keys_for s g rs) (keys_for s g rs) z))
+        subst Has (sym (keys_for-same of g q rs z))
         (let lt = has.1 in (suc has.0, omega (arith, lt), has.2)))
-        (λ (n : group ≢ g).
-        subst Has (sym (choice-other group g (q.0 ∷ keys_for s g rs) (keys_for s g rs) n)) has)
+        (λ (n : group ≢ g). subst Has (sym (keys_for-other of g q rs n)) has)
 
     go : (w : Bool) →
-        cond w (Some q) (row_from s group (index_behind last filled group + 1) rs place)
+        cond w (Some q) (row_from s of group (index_behind last filled group + 1) rs place)
         ≡ Some (k, x) →
-        (row_from s group (index_behind last filled group + 1) rs place ≡ Some (k, x) →
-        Has (keys_for s g rs)) →
-        Has (keys_for s g (q ∷ rs))
+        (row_from s of group (index_behind last filled group + 1) rs place ≡ Some (k, x) →
+        Has (keys_for of g rs)) →
+        Has (keys_for of g (q ∷ rs))
     go true e rest =
         let same : q.0 ≡ k = ap (λ (r : ℕ × ℕ). r.0) (some_row e) in
-        subst Has
-        (sym (choice-same group g (q.0 ∷ keys_for s g rs) (keys_for s g rs)
-        (ap (first_group_for s) same)))
-        (0, omega arith, same)
+        subst Has (sym (keys_for-same of g q rs (ap of same))) (0, omega arith, same)
     go false e rest = kept (rest e)
 
 -- ---- the arrays ----
@@ -245,8 +195,7 @@ opened_row : (o : Opening) (g n : ℕ) → n < length (opening_keys o g) →
     (x : ℕ) × (opening_row o (array_address (shape o) g n)
     ≡ Some (slice_index (opening_keys o g) n, x))
 opened_row o g n lt =
-    let few = o.few in
-    let row = row_at (shape o) 0 0 g o.rows (goes_on-first o) (omega (arith, few)) n lt in
+    let row = row_at (shape o) (opening_group o) 0 0 g o.rows (goes_on-first o) n lt in
     let first = index_first g in
     let same : n ≡ index_behind 0 0 g + n = omega (arith, first) in
     (row.0, ap (λ (y : ℕ). opening_row o (array_address (shape o) g y)) same ∙ row.1)
@@ -255,13 +204,13 @@ opened_at : (o : Opening) (g n : ℕ) → n < length (opening_keys o g) →
     HasKeyAt o g n (slice_index (opening_keys o g) n) []
 opened_at o g n lt =
     let key : ℕ = slice_index (opening_keys o g) n in
-    ap (role_of_row (shape o)) (opened_row o g n lt).1
+    ap (role_of_row o) (opened_row o g n lt).1
     ∙ ap (λ (y : ℕ). InArray y key) (opening_keys-group o g n lt).0
 
 pub opened_index : (o : Opening) (g k p : ℕ) → role o p [] ≡ InArray g k → IsOpenedAt o g k p
 opened_index o g k p e =
     let a = opening_role-array o p g k e in
-    let found = key_of_row (shape o) 0 0 o.rows p k a.1 a.2 in
+    let found = key_of_row (shape o) (opening_group o) 0 0 o.rows p k a.1 a.2 in
     let w = subst (λ (y : ℕ). (n : ℕ) × (n < length (opening_keys o y))
     × (slice_index (opening_keys o y) n ≡ k)) (sym a.0) found in
     let row = opened_row o g w.0 w.1 in
@@ -279,12 +228,11 @@ pub opened_in_order : (o : Opening) (g k p : ℕ) → role o p [] ≡ InArray g 
     IsBehindSmallerKeys o g k p []
 opened_in_order o g k p e =
     let w = opened_index o g k p e in
-    let few = o.few in
-    let most = few_for (shape o) g o.rows in
+    let most = opening_keys-fit o g in
     let below = w.below in
     record {
       index = w.index;
-      in_array = omega (arith, few, most, below);
+      in_array = omega (arith, most, below);
       at = w.at;
       smaller = λ i lt.
           let up = AllPairs-from_increasing (opening_keys o g) (opening_keys-rise o g).rising i w.index 0
@@ -315,7 +263,7 @@ opened_owned o g k p e = sym (opening_role-array o p g k e).0
 
 -- ---- sizes ----
 
-opened_keys : (o : Opening) (g : ℕ) → HasKeysFrom o g 0 (opening_keys o g) []
+pub opened_keys : (o : Opening) (g : ℕ) → HasKeysFrom o g 0 (opening_keys o g) []
 opened_keys o g = has_keys o g (opening_keys o g) []
     (λ n lt. opened_at o g n lt)
     (λ k at.

@@ -8,11 +8,14 @@ use Rattle.word_layout.specs.declared.places.Part.TheVariants as part
 use Rattle.word_layout.specs.Addresses.{array_address}
 use Rattle.word_layout.specs.Parts.{greatest_key}
 use Rattle.word_layout.specs.Words.{PlaceWord}
-use Rattle.word_layout.specs.Shape.{group_total}
+use Rattle.rebuild_plan.specs.Keys.{group_keys}
+use Rattle.word_layout.specs.Shape.{first_group_of, group_total}
 use Rattle.index_machine.specs.declared.opening.Opening.{Opening}
 use Rattle.index_machine.specs.Execution.{Execution}
 use Rattle.index_machine.specs.Words.{limits, shape, word}
-use Rattle.index_machine.specs.Keepers.{IsKeyIn, part_of}
+use Rattle.index_machine.specs.Keepers.{IsKeyIn, IsPart, part_of}
+use Rattle.index_machine.specs.OpeningPlan.{part_keys}
+use Rattle.index_machine.specs.OpeningRows.{opening_count}
 use Rattle.index_machine.specs.Rows.{InArray, Role, role}
 use Rattle.index_machine.specs.RecordConditions.{MayLoadKey, MayWalk}
 use Rattle.index_machine.specs.RebuildConditions.{HasKeysFrom}
@@ -130,3 +133,10 @@ KeysOfListsMayBeLoaded =
     word o t (PlaceWord (array_address (shape o) group index) part.Key) ≡ found →
     MayLoadKey o hand (array_address (shape o) group index) found t
     × (found ≡ slice_index (array_keys o group t) index)
+
+-- as the table is opened, each group in use has just the keys of its share, by the plan over the keys of its part
+abbrev pub OpenedArraysHaveTheirShares : Type 0
+OpenedArraysHaveTheirShares =
+    (o : Opening) (part number : ℕ) → IsPart o part → number < opening_count o part →
+    array_keys o (first_group_of (shape o) part + number) []
+    ≡ group_keys (part_keys (shape o) o.rows part) (limits o).group_size number

@@ -3,6 +3,7 @@ ghost use Rattle.machine_arrays.specs.Arrays.{ArraysAreFilledInOrder, ArraysHave
 ghost use Rattle.machine_arrays.specs.Arrays.{GapsOfListsHaveNoPlace, KeysOfArraysAreKeys};
 ghost use Rattle.machine_arrays.specs.Arrays.{KeysOfArraysRise, KeysOfListsMayBeLoaded};
 ghost use Rattle.machine_arrays.specs.Arrays.{ListsOfKeysAreWhole, ListsOfKeysFit, ListsOfKeysRise};
+ghost use Rattle.machine_arrays.specs.Arrays.{OpenedArraysHaveTheirShares};
 ghost use Rattle.machine_arrays.specs.Ranges.{ArraysHaveKeysOfTheirGroup};
 ghost use Rattle.machine_arrays.specs.Ranges.{ArraysOfTheChainAreInRange, KeysOfArraysAreInRange};
 ghost use Rattle.machine_arrays.specs.Sizes.{ArraysInUseAreSized, ArraysOfTheChainAreSized};
@@ -54,6 +55,11 @@ pub fn gaps_of_lists_have_no_place()
 /// A hand that may walk the group may load the key at each index of the list, and finds that of the list.
 pub fn keys_of_lists_may_be_loaded()
     ensures { KeysOfListsMayBeLoaded }
+{}
+
+/// As a table is opened, the array of each group in use has just the keys of its share, by the plan.
+pub fn opened_arrays_have_their_shares()
+    ensures { OpenedArraysHaveTheirShares }
 {}
 
 /// Each key of an array is one of its group's, unless the group is out of use.

@@ -14,5 +14,6 @@ pub use laws::{
     arrays_where_callers_stand_are_sized, begun_arrays_are_empty, gaps_of_lists_have_no_place,
     keepers_alone_change_arrays, keys_of_arrays_are_in_range, keys_of_arrays_are_keys,
     keys_of_arrays_rise, keys_of_lists_may_be_loaded, lists_of_keys_are_whole, lists_of_keys_fit,
-    lists_of_keys_rise, loads_meet_one_array, new_keys_come_last, sizes_are_of_the_keys,
+    lists_of_keys_rise, loads_meet_one_array, new_keys_come_last, opened_arrays_have_their_shares,
+    sizes_are_of_the_keys,
 };

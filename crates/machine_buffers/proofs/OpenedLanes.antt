@@ -4,7 +4,8 @@ use Rattle.std.proofs.Common.{arith, lt-ltb, zero, suc, List}
 use Rattle.index_machine.specs.Lanes.{cut, lanes}
 use Rattle.index_machine.specs.OpeningRows.{is_in_opening_chain, opening_keys, opening_pivot}
 use Rattle.index_machine.specs.Openings.{opening_group}
-use Rattle.index_machine.proofs.OpeningGroups.{opening_keys-group, opening_keys-rise, opening_pivot-group}
+use Rattle.index_machine.proofs.OpeningGroups.{opening_keys-rise, opening_pivot-group}
+use Rattle.index_machine.proofs.OpeningPlan.{opening_keys-group}
 use Rattle.word_layout.specs.Parts.{greatest_key}
 use Rattle.index_machine.specs.Words.{opening_cut}
 use Rattle.index_machine.specs.declared.opening.Opening.{Opening}

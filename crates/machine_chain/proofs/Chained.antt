@@ -23,16 +23,15 @@ use Rattle.machine_chain.proofs.Words.{chained_next, chained_pivot, never}
 use Rattle.machine_chain.proofs.Words.{next_same}
 use Rattle.machine_chain.specs.Chain.{IsChained, end_of, next_of, pivot_of, start_of}
 use Rattle.machine_chain.proofs.PartKeys.{end_is_key, next_key, part_of_key, same_part}
-use Rattle.index_machine.specs.Keepers.{IsKeyIn, first_key, last_key, part_of}
+use Rattle.index_machine.specs.Keepers.{IsKeyIn, IsPart, first_key, last_key, part_of}
 use Rattle.index_machine.specs.Sections.{IsHand}
 use Rattle.index_machine.specs.Words.{shape}
 use Rattle.index_machine.specs.OpeningRows.{opening_pivot}
 use Rattle.index_machine.proofs.OfParts.{group_exists, group_in_part, key_between, key_in_part, key_most}
 use Rattle.index_machine.proofs.OfParts.{opened_in_part, spot_is_part}
-use Rattle.index_machine.proofs.OpeningGroups.{opening_group-chain, opening_group-part}
-use Rattle.index_machine.proofs.OpeningRows.{first_group_for-key}
-use Rattle.word_layout.specs.Parts.{first_key_of, part_with}
-use Rattle.word_layout.specs.Shape.{first_group_of}
+use Rattle.index_machine.proofs.OpeningGroups.{opening_group-chain, opening_group-first, opening_next-group}
+use Rattle.index_machine.proofs.OpeningGroups.{opening_next-last}
+use Rattle.word_layout.specs.Parts.{part_with}
 use Rattle.word_layout.proofs.KeySpace.{first_key-within}
 use Rattle.word_layout.proofs.PartGroups.{part_with-within}
 use Rattle.index_machine.proofs.Options.{some_is}
@@ -335,41 +334,50 @@ chain_step o t b (Install spot lead low high) valid old =
 chain_step o t b d valid old =
     chain_kept o t b d valid.0 (λ k. refl) (λ spot lead low high z. let bad = z in cc) old
 
--- at the opening all keys of a part have one group
-opening_same : (o : Opening) (k : ℕ) → k < end_of o k → opening_group o k ≡ opening_group o (k + 1)
-opening_same o k lt =
-    let most = end_is_key o k in
-    let same = same_part o k (k + 1) (let least = (next_key o k lt).2 in omega arith) (omega arith) in
-    first_group_for-key (shape o) k (omega (arith, lt, most))
-    ∙ (ap (first_group_of (shape o)) (sym same)
-    ∙ sym (first_group_for-key (shape o) (k + 1) (omega (arith, lt, most))))
+-- ---- at the opening ----
 
--- what begins or ends a part is a key
-boundary_key : (o : Opening) (k : ℕ) → (k ≡ start_of o k) ⊎ (k ≡ end_of o k) → k ≤ greatest_key
-boundary_key o k = ⊎_elim
-    (λ (z : k ≡ start_of o k).
-    omega (
-      arith,
-      z,
-      first_key-within (shape o).bounds (part_with (shape o).bounds k) o.layout.cut
-          (part_with-within (shape o).bounds k),
-    ))
-    (λ (z : k ≡ end_of o k). omega (arith, z, end_is_key o k))
+-- the part of a key
+key_part : (o : Opening) (k : ℕ) → IsPart o (part_with (shape o).bounds k)
+key_part o k = part_with-within (shape o).bounds k
 
--- the pivot of its group is the part's least key
+opening_leads : (o : Opening) (k : ℕ) → k < end_of o k → opening_group o k ≢ opening_group o (k + 1) →
+    (next_of o (opening_group o k) [] ≡ opening_group o (k + 1) + 1)
+    × (pivot_of o (opening_group o (k + 1)) [] ≡ k + 1)
+opening_leads o k lt differ =
+    let part : ℕ = part_with (shape o).bounds k in
+    let low = (next_key o k lt).2 in
+    let leads = opening_next-group o part k (key_part o k) (record { from = low; to = omega arith })
+    (record { from = omega arith; to = omega arith }) differ in
+    let small = end_is_key o k in
+    let g : ℕ = opening_group o (k + 1) in (
+      leads.0,
+      ap (λ (w : Bool). cond w (opening_pivot o g) 0) (opening_group-chain o (k + 1) (omega arith)) ∙ leads.1,
+    )
+
+-- the pivot of the group of a part's least key is this key
 opening_first : (o : Opening) (k : ℕ) → k ≡ start_of o k → pivot_of o (opening_group o k) [] ≡ k
 opening_first o k starts =
-    let key = boundary_key o k (inl starts) in
-    let g : ℕ = opening_group o k in
-    ap (λ (w : Bool). cond w (opening_pivot o g) 0) (opening_group-chain o k key)
-    ∙ (ap (first_key_of (shape o).bounds) (opening_group-part o k key) ∙ sym starts)
+    let part : ℕ = part_with (shape o).bounds k in
+    let small : first_key o part ≤ greatest_key =
+    first_key-within (shape o).bounds part o.layout.cut (key_part o k)
+    in
+    let chained = opening_group-chain o (first_key o part) small in
+    subst (λ (j : ℕ). pivot_of o (opening_group o j) [] ≡ j) (sym starts)
+    (ap (λ (w : Bool). cond w (opening_pivot o (opening_group o (first_key o part))) 0) chained
+    ∙ (opening_group-first o part (key_part o k)).1)
 
 pub groups_chained : (o : Opening) (t : Execution) → Valid o t → IsChained o t
 groups_chained o [] valid = record {
-  next = λ k g h lt is at n. absurd (n (sym is ∙ (opening_same o k lt ∙ at)));
+  next = λ k g h lt is at n.
+      let leads = opening_leads o k lt (λ e. n (sym is ∙ (e ∙ at))) in (
+        ap (λ (y : ℕ). next_of o y []) (sym is) ∙ (leads.0 ∙ ap (λ (y : ℕ). y + 1) at),
+        ap (λ (y : ℕ). pivot_of o y []) (sym at) ∙ leads.1,
+      );
   first = λ k g starts is.
       ap (λ (y : ℕ). pivot_of o y []) (sym is) ∙ opening_first o k starts;
-  last = λ k g ends is. refl;
+  last = λ k g ends is.
+      ap (λ (y : ℕ). next_of o y []) (sym is ∙ ap (opening_group o) ends)
+      ∙ opening_next-last o (part_with (shape o).bounds k) (key_part o k);
 }
 groups_chained o (e ∷ t) valid =
     chain_step o t e.by e.action valid (groups_chained o t valid.1)

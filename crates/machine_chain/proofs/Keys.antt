@@ -3,9 +3,9 @@
 use Rattle.std.proofs.Common.{◌≡◌, ℕ, ◌<◌, ◌≤◌, ◌⊎◌, ⊎_elim, Some, Bool, true}
 use Rattle.std.proofs.Common.{false, [], ◌∷◌, refl, sym, ap, ◌∙◌, subst, cond, arith}
 use Rattle.word_layout.specs.Shape.{group_total}
-use Rattle.std.proofs.lemmas.Bool.{lt-leb}
-use Rattle.index_machine.proofs.OfParts.{key_most, some_group}
-use Rattle.index_machine.proofs.OpeningRows.{first_group_for-exists}
+use Rattle.index_machine.proofs.OfParts.{key_most}
+use Rattle.index_machine.proofs.OpeningGroups.{opening_next-none}
+use Rattle.index_machine.proofs.OpeningPlan.{opening_group-beyond, opening_group-exists}
 use Rattle.index_machine.specs.Keepers.{part_of}
 use Rattle.index_machine.specs.Conditions.{Allowed, Valid}
 use Rattle.index_machine.specs.Execution.{Execution, event}
@@ -133,10 +133,10 @@ keys_step o t b d may old = record {
 pub keys_have_groups : (o : Opening) (t : Execution) → Valid o t → 0 < group_total (shape o) →
     KeysHaveGroups o t
 keys_have_groups o [] valid some = record {
-  beyond = λ k lt. rw (lt-leb k greatest_key lt) refl;
-  within = λ k le. first_group_for-exists (shape o) k (some_group o) le;
+  beyond = λ k lt. opening_group-beyond o k lt;
+  within = λ k le. opening_group-exists o k le;
   new = λ k g e. none_some e;
-  none_behind = refl;
+  none_behind = opening_next-none o;
   old = λ k g e. none_some e;
 }
 keys_have_groups o (e ∷ t) valid some =

@@ -9,7 +9,8 @@ use Rattle.index_machine.specs.declared.events.Action.TheVariants.{LoadRoot}
 use Rattle.index_machine.proofs.Executions.{choice-same, choice-other}
 use Rattle.index_machine.proofs.Ranges.{in_range}
 use Rattle.index_machine.proofs.OfParts.{outside_install}
-use Rattle.index_machine.proofs.OpeningGroups.{opening_group-in}
+use Rattle.index_machine.proofs.OpeningGroups.{opening_slot-group, opening_slot-least, opening_slots-rise}
+use Rattle.index_machine.specs.OpeningRoots.{opening_root, opening_slots}
 use Rattle.index_machine.specs.Keepers.{IsPart, IsKeyIn, first_key}
 use Rattle.index_machine.specs.RebuildConditions.{MayInstall}
 use Rattle.index_machine.specs.Words.{shape}
@@ -23,7 +24,7 @@ use Rattle.index_machine.specs.Conditions.{Allowed, Valid}
 use Rattle.index_machine.specs.Execution.{Execution, event}
 use Rattle.index_machine.specs.Groups.{IsInUse, root, same_slot, slot}
 use Rattle.index_machine.specs.KeyRanges.{group_of}
-use Rattle.index_machine.specs.Openings.{within}
+use Rattle.index_machine.specs.Openings.{opening_group, within}
 use Rattle.index_machine.specs.Permissions.{IsReadableSlot}
 use Rattle.index_machine.specs.Reaching.{SeesSlot, root_seen}
 use Rattle.index_machine.specs.RebuildConditions.{IsUnusedSide}
@@ -285,53 +286,30 @@ slots_step o t b d valid may old = record {
 
 -- ---- at the opening ----
 
--- the slot with these numbers
-first_slot_is : (side i : ℕ) → side ≡ 0 → i ≡ 0 → ((side == 0) && (i == 0)) ≡ true
-first_slot_is side i at is = rw (eq-eqb side 0 at, eq-eqb i 0 is) refl
-
 -- the least key of a part is one of its keys
 first_of_part : (o : Opening) (part : ℕ) → IsPart o part → IsKeyIn o part (first_key o part)
 first_of_part o part is_part =
     record { from = omega arith; to = has_a_key (shape o).bounds part o.layout.cut is_part }
 
--- one slot of a part is in use at the opening, and no caller has loaded a root word
-only_slot : (o : Opening) (part w side i : ℕ) → IsRootWord o part w [] → IsInUse w side i →
-    (side ≡ 0) × (i ≡ 0)
-only_slot o part w side i r used = ⊎_elim
-    (λ (z : 2 ≡ w). let word = used.1 in let below = used.2 in let less = used.3 in
+-- the slots in use are those of side 0, and no caller has loaded a root word
+used_slot : (o : Opening) (part w side i : ℕ) → IsRootWord o part w [] → IsInUse w side i →
+    (side ≡ 0) × (i < opening_slots o part)
+used_slot o part w side i r used = ⊎_elim
+    (λ (z : opening_root o part ≡ w). let word = used.1 in let below = used.2 in let less = used.3 in
     (omega (arith, z, word, below, less), omega (arith, z, word, below, less)))
     (λ (z : (c : ℕ) × IsCaller o c × (root_seen c part [] ≡ Some w)). none_some z.2) r
-
--- it has the part's least key, and names the group of that key
-opened_pivot : (o : Opening) (part side i : ℕ) → side ≡ 0 → i ≡ 0 →
-    slot_pivot o part side i [] ≡ first_key o part
-opened_pivot o part side i at is =
-    ap (λ (w : Bool). cond w (first_key o part) 0) (first_slot_is side i at is)
-
-opened_slot : (o : Opening) (part side i : ℕ) → IsPart o part → side ≡ 0 → i ≡ 0 →
-    slot o part side i [] ≡ group_of o (first_key o part) []
-opened_slot o part side i is_part at is =
-    let small = first_key-within (shape o).bounds part o.layout.cut is_part in
-    let mine = first_of_part o part is_part in
-    ap (λ (w : Bool). cond w (first_group_of (shape o) part) 0) (first_slot_is side i at is)
-    ∙ sym (opening_group-in o part (first_key o part) is_part mine small)
 
 pub slots_lead : (o : Opening) (t : Execution) → Valid o t → SlotsLead o t
 slots_lead o [] valid = record {
   leads = λ part side i is_part r.
       let w = word_of o [] part side i r in
-      let one = only_slot o part w.0 side i w.1 w.2 in
-      let pivot = opened_pivot o part side i one.0 one.1 in (
-        first_key o part,
-        omega (arith, pivot),
-        inl (sym (opened_slot o part side i is_part one.0 one.1)),
-        first_of_part o part is_part,
-      );
+      let used = used_slot o part w.0 side i w.1 w.2 in
+      let names = opening_slot-group o part side i is_part used.0 used.1 in
+      (slot_pivot o part side i [], omega arith, inl names.0, names.1);
   least = λ part w side r used.
-      let one = only_slot o part w side 0 r used in opened_pivot o part side 0 one.0 refl;
+      opening_slot-least o part side (used_slot o part w side 0 r used).0;
   rising = λ part w side i r used.
-      let one = only_slot o part w side (i + 1) r used in
-      let bad = one.1 in absurd (omega (arith, bad));
+      let is = used_slot o part w side (i + 1) r used in opening_slots-rise o part side i is.0 is.1;
 }
 slots_lead o (e ∷ t) valid =
     slots_step o t e.by e.action valid.1 valid.0 (slots_lead o t valid.1)
@@ -441,8 +419,9 @@ first_step o t b d part valid is_part old side used = old side used
 
 pub first_slot : TheChainBeginsAtTheFirstSlot
 first_slot o [] valid part side is_part used =
-    let one = only_slot o part 2 side 0 (inl refl) used in
-    opened_slot o part side 0 is_part one.0 refl
+    let is = used_slot o part (opening_root o part) side 0 (inl refl) used in
+    sym (opening_slot-group o part side 0 is_part is.0 is.1).0
+    ∙ ap (opening_group o) (opening_slot-least o part side is.0)
 first_slot o (e ∷ t) valid part side is_part used =
     first_step o t e.by e.action part valid is_part
     (λ s u. first_slot o t valid.1 part s is_part u) side used

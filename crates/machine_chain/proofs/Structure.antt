@@ -4,7 +4,8 @@ use Rattle.std.proofs.Common.{ap, subst, ◌∙◌}
 use Rattle.std.specs.Prelude.{◌==◌}
 use Rattle.index_machine.proofs.Executions.{choice-other}
 use Rattle.index_machine.proofs.OfParts.{group_exists, key_in_part, other_before, other_phase, other_rebuild}
-use Rattle.index_machine.proofs.OfParts.{other_successor, outside_install, some_group, successor_in_part}
+use Rattle.index_machine.proofs.OfParts.{other_successor, outside_install, successor_in_part}
+use Rattle.index_machine.proofs.OpeningPlan.{some_group}
 use Rattle.index_machine.specs.Keepers.{IsGroupKeeper, IsKeyIn, IsPart, IsPartKeeper, part_of}
 use Rattle.index_machine.specs.Groups.{rebuild, root, same_slot, slot}
 use Rattle.index_machine.specs.KeyRanges.{predecessor}

@@ -45,11 +45,11 @@ opening-map_agrees o k = go (opening_live_place o k) refl
           row.0,
           ap (λ (r : Option (ℕ × ℕ)). live_value (form_of_row (first_version o) r)) row.1,
           row.2,
-          ap (λ (r : Option (ℕ × ℕ)). role_key (role_of_row (shape o) r)) row.1,
+          ap (λ (r : Option (ℕ × ℕ)). role_key (role_of_row o r)) row.1,
         )
 
 pub opening-live_places_stand : (o : Opening) → LivePlacesStand o []
-opening-live_places_stand o k p e = inl (ap (role_of_row (shape o)) (opening_live-row o k p e).1)
+opening-live_places_stand o k p e = inl (ap (role_of_row o) (opening_live-row o k p e).1)
 
 pub one_live_place : AtMostOneLivePlace
 one_live_place o t valid = only_live o (opening-only_live o) t valid

@@ -223,7 +223,7 @@ opening-covered o =
     omega (arith, none, no_more)
   where
     unlinked : (keeper : ℕ) (r : Option (ℕ × ℕ)) →
-        is_linked_or_retired keeper (role_of_row (shape o) r) ≡ true → ⊥
+        is_linked_or_retired keeper (role_of_row o r) ≡ true → ⊥
     unlinked keeper None e = not_so e
     unlinked keeper (Some r) e = not_so e
 

@@ -6,6 +6,7 @@ use native.Mathlib.Decide.{ℕ_discrete}
 use Rattle.line_window.specs.Line.{error_of}
 use Rattle.rebuild_plan.specs.Plan.{lane_count, lane_width}
 use Rattle.rebuild_plan.specs.Keys.{cut_of}
+use Rattle.word_layout.specs.declared.headers.HeaderWord.{HeaderWord}
 use Rattle.word_layout.specs.declared.headers.HeaderWord.TheVariants as header
 use Rattle.word_layout.specs.Headers.{most_lanes}
 use Rattle.word_layout.specs.Limits.{word_count}
@@ -67,19 +68,21 @@ cut_more s group pivot keys many old words exists wide below done =
 
 -- ---- the header ----
 
--- the table where the pivot, the size, the line error and the number of lanes were stored
-abbrev pub told : (s : Shape) (group pivot : ℕ) (keys words : List ℕ) → List ℕ
-told s group pivot keys words =
+-- the table where the pivot, the size, the line error, the next word and the number of lanes were stored
+abbrev pub told : (s : Shape) (group pivot next : ℕ) (keys words : List ℕ) → List ℕ
+told s group pivot next keys words =
     slice_set
+    (slice_set
     (slice_set
     (slice_set (slice_set words (address_of s (Header group header.Pivot)) pivot)
     (address_of s (Header group header.Size)) (length keys))
     (address_of s (Header group header.LineError)) (error_of keys))
+    (address_of s (Header group header.Next)) next)
     (address_of s (Header group header.Lanes)) (lane_count (length keys))
 
-module _ (s : Shape) (group pivot : ℕ) (keys old new : List ℕ) (exists : group < group_total s)
+module _ (s : Shape) (group pivot next : ℕ) (keys old new : List ℕ) (exists : group < group_total s)
     (wide : length old ≡ word_count s)
-    (cuts : LaysCuts s group pivot keys (lane_count (length keys)) (told s group pivot keys old) new) where
+    (cuts : LaysCuts s group pivot keys (lane_count (length keys)) (told s group pivot next keys old) new) where
   abbrev with_pivot : List ℕ
   with_pivot = slice_set old (address_of s (Header group header.Pivot)) pivot
 
@@ -88,6 +91,9 @@ module _ (s : Shape) (group pivot : ℕ) (keys old new : List ℕ) (exists : gro
 
   abbrev with_error : List ℕ
   with_error = slice_set with_size (address_of s (Header group header.LineError)) (error_of keys)
+
+  abbrev with_next : List ℕ
+  with_next = slice_set with_error (address_of s (Header group header.Next)) next
 
   wide_pivot : length with_pivot ≡ word_count s
   wide_pivot = length-set old (address_of s (Header group header.Pivot)) pivot ∙ wide
@@ -99,54 +105,70 @@ module _ (s : Shape) (group pivot : ℕ) (keys old new : List ℕ) (exists : gro
   wide_error =
       length-set with_size (address_of s (Header group header.LineError)) (error_of keys) ∙ wide_size
 
-  is_pivot : IsWord s (Header group header.Pivot)
+  wide_next : length with_next ≡ word_count s
+  wide_next = length-set with_error (address_of s (Header group header.Next)) next ∙ wide_error
+
+  -- a word of the header that no lane has
+  abbrev IsOwn : HeaderWord → Type 0
+  IsOwn which = IsWord s (Header group which)
+
+  is_pivot : IsOwn header.Pivot
   is_pivot = (exists, tt)
 
-  is_size : IsWord s (Header group header.Size)
+  is_size : IsOwn header.Size
   is_size = (exists, tt)
 
-  is_error : IsWord s (Header group header.LineError)
+  is_error : IsOwn header.LineError
   is_error = (exists, tt)
 
-  is_lanes : IsWord s (Header group header.Lanes)
+  is_next : IsOwn header.Next
+  is_next = (exists, tt)
+
+  is_lanes : IsOwn header.Lanes
   is_lanes = (exists, tt)
 
-  -- what the store of the number of lanes and the cuts keep
+  -- what the stores of the next word, of the number of lanes and of the cuts keep
   kept_last : (w : Word) → IsWord s w →
       ((lane : ℕ) → lane < lane_count (length keys) → w ≢ Header group (header.Cut lane)) →
-      Header group header.Lanes ≢ w → word_named s new w ≡ word_named s with_error w
-  kept_last w is no_cut no_lanes =
+      Header group header.Lanes ≢ w → Header group header.Next ≢ w →
+      word_named s new w ≡ word_named s with_error w
+  kept_last w is no_cut no_lanes no_next =
       cuts.kept w is no_cut
-      ∙ (stores_by_name s).kept with_error (Header group header.Lanes) w (lane_count (length keys))
+      ∙ ((stores_by_name s).kept with_next (Header group header.Lanes) w (lane_count (length keys))
       is_lanes is no_lanes
+      ∙ (stores_by_name s).kept with_error (Header group header.Next) w next is_next is no_next)
 
-  pub header_laid : LaysHeader s group pivot keys old new
+  pub header_laid : LaysHeader s group pivot next keys old new
   header_laid =
       let by_name = stores_by_name s in
       record {
         wide = cuts.wide
-            ∙ (length-set with_error (address_of s (Header group header.Lanes)) (lane_count (length keys))
-            ∙ (wide_error ∙ sym wide));
-        begins = kept_last (Header group header.Pivot) is_pivot (λ lane lt e. cc) (λ e. cc)
+            ∙ (length-set with_next (address_of s (Header group header.Lanes)) (lane_count (length keys))
+            ∙ (wide_next ∙ sym wide));
+        begins = kept_last (Header group header.Pivot) is_pivot (λ lane lt e. cc) (λ e. cc) (λ e. cc)
             ∙ (by_name.kept with_size (Header group header.LineError) (Header group header.Pivot)
             (error_of keys) is_error is_pivot (λ e. cc)
             ∙ (by_name.kept with_pivot (Header group header.Size) (Header group header.Pivot)
             (length keys) is_size is_pivot (λ e. cc)
             ∙ by_name.stored old (Header group header.Pivot) pivot wide is_pivot));
-        size = kept_last (Header group header.Size) is_size (λ lane lt e. cc) (λ e. cc)
+        size = kept_last (Header group header.Size) is_size (λ lane lt e. cc) (λ e. cc) (λ e. cc)
             ∙ (by_name.kept with_size (Header group header.LineError) (Header group header.Size)
             (error_of keys) is_error is_size (λ e. cc)
             ∙ by_name.stored with_pivot (Header group header.Size) (length keys) wide_pivot is_size);
-        error = kept_last (Header group header.LineError) is_error (λ lane lt e. cc) (λ e. cc)
+        error = kept_last (Header group header.LineError) is_error (λ lane lt e. cc) (λ e. cc) (λ e. cc)
             ∙ by_name.stored with_size (Header group header.LineError) (error_of keys) wide_size
             is_error;
+        leads = cuts.kept (Header group header.Next) is_next (λ lane lt e. cc)
+            ∙ (by_name.kept with_next (Header group header.Lanes) (Header group header.Next)
+            (lane_count (length keys)) is_lanes is_next (λ e. cc)
+            ∙ by_name.stored with_error (Header group header.Next) next wide_error is_next);
         lanes = cuts.kept (Header group header.Lanes) is_lanes (λ lane lt e. cc)
-            ∙ by_name.stored with_error (Header group header.Lanes) (lane_count (length keys))
-            wide_error is_lanes;
+            ∙ by_name.stored with_next (Header group header.Lanes) (lane_count (length keys))
+            wide_next is_lanes;
         cuts = cuts.cuts;
         kept = λ w is none.
             kept_last w is (λ lane lt e. none (header.Cut lane) lt e)
-            (λ e. none header.Lanes tt (sym e))
+            (λ e. none header.Lanes tt (sym e)) (λ e. none header.Next tt (sym e))
             ∙ (by_name.kept with_size (Header group header.LineError) w (error_of keys) is_error is
             (λ e. none header.LineError tt (sym e))
             ∙ (by_name.kept with_pivot (Header group header.Size) w (length keys) is_size is

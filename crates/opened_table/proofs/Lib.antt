@@ -1,10 +1,13 @@
 pub mod GroupRows
+pub mod WordKinds
 pub mod Laid
 pub mod LaidArrays
+pub mod LaidGroups
 pub mod LaidHeaders
 pub mod LaidKeys
 pub mod LaidLinks
 pub mod LaidParts
+pub mod LaidPlan
 pub mod LaidRoots
 pub mod LaidRows
 pub mod PartRows

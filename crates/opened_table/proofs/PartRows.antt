@@ -7,11 +7,9 @@ use Rattle.std.proofs.lemmas.List.{take-append-drop}
 use Rattle.std.proofs.lemmas.List.Elements.{filter-append}
 use Rattle.std.specs.Prelude.{◌==◌}
 use Rattle.map_model.specs.Map.{Map, IsRising}
-use Rattle.word_layout.specs.Parts.{greatest_key, part_with}
-use Rattle.word_layout.specs.Shape.{Shape, first_group_of, part_of_group}
-use Rattle.word_layout.proofs.PartGroups.{first_group-part, part_with-monotone}
-use Rattle.index_machine.specs.OpeningRows.{first_group_for}
-use Rattle.index_machine.proofs.OpeningRows.{first_group_for-key, from_all}
+use Rattle.word_layout.specs.Parts.{part_with}
+use Rattle.word_layout.proofs.PartGroups.{part_with-monotone}
+use Rattle.index_machine.proofs.OpeningKeys.{every_row, from_all}
 use Rattle.opened_table.specs.Laying.{rows_for}
 use Rattle.opened_table.proofs.GroupRows.{all_rows, no_rows}
 
@@ -80,12 +78,6 @@ all_taken P rows zero all = tt
 all_taken P [] (suc n) all = tt
 all_taken P (r ∷ rows) (suc n) all = (all.0, all_taken P rows n all.1)
 
-all_dropped : (P : ℕ × ℕ → Type 0) (rows : Map) (n : ℕ) → AllByRecursion P rows →
-    AllByRecursion P (drop n rows)
-all_dropped P rows zero all = all
-all_dropped P [] (suc n) all = tt
-all_dropped P (r ∷ rows) (suc n) all = all_dropped P rows n all.1
-
 rising_dropped : (rows : Map) (n : ℕ) → IsRising rows → IsRising (drop n rows)
 rising_dropped rows zero rising = rising
 rising_dropped [] (suc n) rising = tt
@@ -99,24 +91,17 @@ both P Q (r ∷ rows) p q = ((p.0, q.0), both P Q rows p.1 q.1)
 -- ---- the rows from a part on ----
 
 -- the rows are those of the table that stand in this part and in later ones
-pub record AreFrom (s : Shape) (part : ℕ) (all rows : Map) : Type 0 where
+pub record AreFrom (bounds : List ℕ) (part : ℕ) (all rows : Map) : Type 0 where
   pub rising : IsRising rows
-  pub keys : AllByRecursion (λ (r : ℕ × ℕ). r.0 ≤ greatest_key) rows
-  pub from : AllByRecursion (λ (r : ℕ × ℕ). part ≤ part_with s.bounds r.0) rows
+  pub from : AllByRecursion (λ (r : ℕ × ℕ). part ≤ part_with bounds r.0) rows
   pub complete : (later : ℕ) → part ≤ later →
-      rows_for s (first_group_of s later) rows ≡ rows_for s (first_group_of s later) all
-
--- parts have first groups of their own
-pub first_group-injective : (s : Shape) (part other : ℕ) → 0 < s.limits.groups →
-    first_group_of s part ≡ first_group_of s other → part ≡ other
-first_group-injective s part other some e =
-    sym (first_group-part s part some) ∙ (ap (part_of_group s) e ∙ first_group-part s other some)
+      rows_for (part_with bounds) later rows ≡ rows_for (part_with bounds) later all
 
 -- the rows are cut behind those of the part
-module _ (s : Shape) (part : ℕ) (all rows : Map) (n : ℕ) (some : 0 < s.limits.groups)
-    (are : AreFrom s part all rows) (upto : n ≤ length rows)
-    (at : IsPartitionPoint (λ (r : ℕ × ℕ). part_with s.bounds r.0 ≤ part)
-    (λ (r : ℕ × ℕ). part < part_with s.bounds r.0) rows n) where
+module _ (bounds : List ℕ) (part : ℕ) (all rows : Map) (n : ℕ) (are : AreFrom bounds part all rows)
+    (upto : n ≤ length rows)
+    (at : IsPartitionPoint (λ (r : ℕ × ℕ). part_with bounds r.0 ≤ part)
+    (λ (r : ℕ × ℕ). part < part_with bounds r.0) rows n) where
   abbrev own : Map
   own = take n rows
 
@@ -124,84 +109,74 @@ module _ (s : Shape) (part : ℕ) (all rows : Map) (n : ℕ) (some : 0 < s.limit
   later = drop n rows
 
   abbrev IsOwn : ℕ × ℕ → Type 0
-  IsOwn r = part_with s.bounds r.0 ≤ part
+  IsOwn r = part_with bounds r.0 ≤ part
 
   abbrev IsLater : ℕ × ℕ → Type 0
-  IsLater r = part < part_with s.bounds r.0
+  IsLater r = part < part_with bounds r.0
 
   abbrev IsFrom : ℕ × ℕ → Type 0
-  IsFrom r = part ≤ part_with s.bounds r.0
+  IsFrom r = part ≤ part_with bounds r.0
 
-  abbrev IsKey : ℕ × ℕ → Type 0
-  IsKey r = r.0 ≤ greatest_key
-
-  -- the first group of an own row
-  own_group : AllByRecursion (λ (r : ℕ × ℕ). first_group_for s r.0 ≡ first_group_of s part) own
-  own_group =
-      from_all (λ (r : ℕ × ℕ). (IsOwn r × IsFrom r) × IsKey r)
-      (λ (r : ℕ × ℕ). first_group_for s r.0 ≡ first_group_of s part) own
-      (λ r h.
-      let most = h.0.0 in
-      let least = h.0.1 in
-      let same : part_with s.bounds r.0 ≡ part = omega arith in
-      first_group_for-key s r.0 h.1 ∙ ap (first_group_of s) same)
-      (both (λ (r : ℕ × ℕ). IsOwn r × IsFrom r) IsKey own
-      (both IsOwn IsFrom own (all_before IsOwn IsLater rows n at upto)
-      (all_taken IsFrom rows n are.from))
-      (all_taken IsKey rows n are.keys))
+  -- the part of an own row
+  own_part : AllByRecursion (λ (r : ℕ × ℕ). part_with bounds r.0 ≡ part) own
+  own_part =
+      from_all (λ (r : ℕ × ℕ). IsOwn r × IsFrom r) (λ (r : ℕ × ℕ). part_with bounds r.0 ≡ part) own
+      (λ r h. omega (arith, h.0, h.1))
+      (both IsOwn IsFrom own (all_before IsOwn IsLater rows n at upto) (all_taken IsFrom rows n are.from))
 
   -- no later row has it
-  later_group : AllByRecursion (λ (r : ℕ × ℕ). first_group_for s r.0 ≢ first_group_of s part) later
-  later_group =
-      from_all (λ (r : ℕ × ℕ). IsLater r × IsKey r)
-      (λ (r : ℕ × ℕ). first_group_for s r.0 ≢ first_group_of s part) later
-      (λ r h e.
-      let more = h.0 in
-      let same : part_with s.bounds r.0 ≡ part =
-      first_group-injective s (part_with s.bounds r.0) part some
-      (sym (first_group_for-key s r.0 h.1) ∙ e)
-      in
-      absurd (omega arith))
-      (both IsLater IsKey later (all_behind IsOwn IsLater rows n at) (all_dropped IsKey rows n are.keys))
+  later_part : AllByRecursion IsLater later
+  later_part = all_behind IsOwn IsLater rows n at
 
-  -- the rows of any group are its own ones and its later ones
-  divided : (group : ℕ) → rows_for s group rows ≡ rows_for s group own ++ rows_for s group later
-  divided group =
-      ap (rows_for s group) (sym (take-append-drop n rows))
-      ∙ filter-append (λ (r : ℕ × ℕ). first_group_for s r.0 == group) own later
+  -- the rows of any part are its own ones and its later ones
+  divided : (other : ℕ) →
+      rows_for (part_with bounds) other rows
+      ≡ rows_for (part_with bounds) other own ++ rows_for (part_with bounds) other later
+  divided other =
+      ap (rows_for (part_with bounds) other) (sym (take-append-drop n rows))
+      ∙ filter-append (λ (r : ℕ × ℕ). part_with bounds r.0 == other) own later
 
   -- the own rows are the part's
-  pub own_rows : own ≡ rows_for s (first_group_of s part) all
+  pub own_rows : own ≡ rows_for (part_with bounds) part all
   own_rows =
-      let group : ℕ = first_group_of s part in
+      let none : rows_for (part_with bounds) part later ≡ [] =
+      no_rows (part_with bounds) part later
+      (from_all IsLater (λ (r : ℕ × ℕ). part_with bounds r.0 ≢ part) later (λ r more e. absurd (omega (arith, more, e)))
+      later_part)
+      in
       sym (sym (are.complete part (omega arith))
-      ∙ (divided group
-      ∙ (ap (λ (z : Map). z ++ rows_for s group later) (all_rows s group own own_group)
-      ∙ (ap (λ (z : Map). own ++ z) (no_rows s group later later_group) ∙ append_nil own))))
+      ∙ (divided part
+      ∙ (ap (λ (z : Map). z ++ rows_for (part_with bounds) part later)
+      (all_rows (part_with bounds) part own own_part)
+      ∙ (ap (λ (z : Map). own ++ z) none ∙ append_nil own))))
     where
       append_nil : (xs : Map) → xs ++ [] ≡ xs
       append_nil [] = refl
       append_nil (x ∷ xs) = ap (λ (z : Map). x ∷ z) (append_nil xs)
 
   -- the others are those of later parts
-  pub later_rows : AreFrom s (part + 1) all later
+  pub later_rows : AreFrom bounds (part + 1) all later
   later_rows =
       record {
         rising = rising_dropped rows n are.rising;
-        keys = all_dropped IsKey rows n are.keys;
-        from = from_all IsLater (λ (r : ℕ × ℕ). part + 1 ≤ part_with s.bounds r.0) later
-            (λ r more. omega arith) (all_behind IsOwn IsLater rows n at);
+        from = from_all IsLater (λ (r : ℕ × ℕ). part + 1 ≤ part_with bounds r.0) later
+            (λ r more. omega arith) later_part;
         complete = λ other least.
-            let group : ℕ = first_group_of s other in
-            let none : rows_for s group own ≡ [] =
-            no_rows s group own
-            (from_all (λ (r : ℕ × ℕ). first_group_for s r.0 ≡ first_group_of s part)
-            (λ (r : ℕ × ℕ). first_group_for s r.0 ≢ group) own
-            (λ r is e.
-            let same : part ≡ other = first_group-injective s part other some (sym is ∙ e) in
-            absurd (omega arith))
-            own_group)
+            let none : rows_for (part_with bounds) other own ≡ [] =
+            no_rows (part_with bounds) other own
+            (from_all (λ (r : ℕ × ℕ). part_with bounds r.0 ≡ part)
+            (λ (r : ℕ × ℕ). part_with bounds r.0 ≢ other) own
+            (λ r is e. absurd (omega (arith, is, e, least))) own_part)
             in
             sym (sym (are.complete other (omega arith))
-            ∙ (divided group ∙ ap (λ (z : Map). z ++ rows_for s group later) none));
+            ∙ (divided other ∙ ap (λ (z : Map). z ++ rows_for (part_with bounds) other later) none));
       }
+
+-- all rows stand in part 0 or in later ones
+pub from_first : (bounds : List ℕ) (rows : Map) → IsRising rows → AreFrom bounds 0 rows rows
+from_first bounds rows rising =
+    record {
+      rising = rising;
+      from = every_row (λ (r : ℕ × ℕ). 0 ≤ part_with bounds r.0) rows (λ r. omega arith);
+      complete = λ later least. refl;
+    }

@@ -1,28 +1,32 @@
 //! The words of a table as it is opened.
 //!
-//! The fact to remember: the rows rise, so those of a part stand behind those of all parts before it.
-ghost use Rattle.std.specs.Prelude.{◌≡◌, ◌<◌, ◌≤◌, [], IfOk, length};
+//! The fact to remember: the rows rise, so those of a part stand behind those of all parts before it, and those of
+//! a group behind those of the groups before it.
+ghost use Rattle.std.specs.Prelude.{◌≡◌, ◌*◌, ◌<◌, ◌≤◌, true, [], IfOk, length, take, drop, slice_index};
 ghost use Rattle.std.specs.List.Sorted.{IsPartitionPoint};
 ghost use Rattle.word_layout.specs.Limits.{word_count};
 ghost use Rattle.word_layout.specs.Layout.{limits_of, shape_of};
 ghost use Rattle.word_layout.specs.Parts.{part_with};
-ghost use Rattle.word_layout.specs.Shape.{parts_in, group_total, first_group_of};
+ghost use Rattle.word_layout.specs.Shape.{parts_in, group_total};
 ghost use Rattle.map_model.specs.Map.{IsRising};
 ghost use Rattle.rebuild_plan.specs.Plan.{lane_count};
+ghost use Rattle.index_machine.specs.OpeningRows.{opening_count, opening_pivots, opening_pivot, opening_next};
+ghost use Rattle.index_machine.specs.OpeningRows.{is_in_opening_chain};
 ghost use Rattle.index_machine.specs.Words.{shape};
-ghost use Rattle.opened_table.specs.Laying.{StandsFor, keys_in, rows_of_part};
-ghost use Rattle.opened_table.specs.Laying.{FillsArray, LaysCuts, LaysHeader, LinksRows};
-ghost use Rattle.opened_table.specs.Laying.{LaysRoot, LaysPart, LaysParts};
+ghost use Rattle.opened_table.specs.Laying.{StandsFor, keys_in, rows_of_part, rows_of_group, share_in};
+ghost use Rattle.opened_table.specs.Laying.{FillsArray, LaysCuts, LaysHeader, LinksRows, Lays};
+ghost use Rattle.opened_table.specs.Laying.{IsOfFirst, IsOfSlot, IsOfRoot, IsOfGroup, IsOfGroups, IsOfPart};
 
 use index_machine::Opening;
 use line_window::{Keys, Line};
-use rebuild_plan::{lane_width, lanes_for};
+use rebuild_plan::{groups_for, lane_width, lanes_for, root_step, share};
 use std::alloc::{AllocError, Global};
 use word_layout::{HeaderWord, Layout, Parts, State, link_word, state_word, value_word};
 
-/// All record rows are on the free stack, row 0 first. Each part's root names side 0, which has one slot in
-/// use, that of the part's first group. This group's array has the part's rows, which are given as a slice
-/// too. Its header has the error of their line and the lanes that the plan cuts for them.
+/// All record rows are on the free stack, row 0 first. The plan shares out each part's rows, which are given as a
+/// slice too, among the part's first groups. The array of a group has its rows, and its header their number, the error
+/// of their line, the lanes that the plan cuts for them, and the group behind it. The slots of a part's root that are
+/// in use are on side 0 and name groups at equal steps.
 pub fn laid_words(
     alloc: Global,
     opening: &Opening,
@@ -52,8 +56,8 @@ fn link_rows(layout: &Layout, words: &mut Vec<u64>)
 fn lay_parts(opening: &Opening, rows: &[(u64, u64)], words: &mut Vec<u64>)
     requires rows { rows.now ≡ opening.now.rows }
     requires wide { length words.old.items ≡ word_count (shape opening.now) }
-    ensures { LaysParts opening.now (parts_in (shape opening.now)) words.old.items
-        words.new.items }
+    ensures { Lays opening.now (IsOfFirst (IsOfPart opening.now) (parts_in (shape opening.now)))
+        words.old.items words.new.items }
 {
     let parts = opening.layout.parts();
     let mut rest = rows;
@@ -78,33 +82,138 @@ fn lay_part(opening: &Opening, part: u32, rows: &[(u64, u64)], words: &mut Vec<u
     requires is_part { part < parts_in (shape opening.now) }
     requires rows { rows.now ≡ rows_of_part opening.now part }
     requires wide { length words.old.items ≡ word_count (shape opening.now) }
-    ensures { LaysPart opening.now part words.old.items words.new.items }
+    ensures { Lays opening.now (IsOfPart opening.now part) words.old.items words.new.items }
+{
+    let groups = count_of_groups(opening, part, rows);
+    let each = share(rows.len() as u64, u64::from(groups));
+    lay_root(opening, part, rows, groups, each, words);
+    lay_groups(opening, part, rows, groups, each, words);
+}
+
+// Into how many groups the plan shares out the rows of a part.
+fn count_of_groups(opening: &Opening, part: u32, rows: &[(u64, u64)]) -> u32
+    requires is_part { part < parts_in (shape opening.now) }
+    requires rows { rows.now ≡ rows_of_part opening.now part }
+    ensures count { result ≡ opening_count opening.now part }
+    ensures some { 1 ≤ result }
+{
+    groups_for(rows.len() as u64, opening.layout.limits().group_size) as u32
+}
+
+fn lay_root(
+    opening: &Opening,
+    part: u32,
+    rows: &[(u64, u64)],
+    groups: u32,
+    each: u64,
+    words: &mut Vec<u64>,
+)
+    requires is_part { part < parts_in (shape opening.now) }
+    requires rows { rows.now ≡ rows_of_part opening.now part }
+    requires groups { groups ≡ opening_count opening.now part }
+    requires each { each ≡ share_in opening.now part }
+    requires wide { length words.old.items ≡ word_count (shape opening.now) }
+    ensures { Lays opening.now (IsOfRoot opening.now part) words.old.items words.new.items }
 {
     let layout = &opening.layout;
-    let group = layout.first_group(part);
-    lay_root(layout, part, words);
-    lay_header(layout, group, layout.parts().first_key(part), rows, words);
+    let step = root_step(groups, layout.limits().slots);
+    let slots = groups.div_ceil(step);
+    words[layout.root(part) as usize] = 2 * u64::from(slots);
+    for i in 0..slots {
+        let number = i * step;
+        let pivot = pivot_of_group(opening, part, rows, each, number);
+        words[layout.slot(part, 0, i) as usize] = pivot;
+        words[layout.slot_group(part, 0, i) as usize] = u64::from(
+            layout.first_group(part) + number,
+        );
+    }
+}
+
+// The pivot of the part's group with this number: the part's least key, or the key of the group's first row.
+fn pivot_of_group(opening: &Opening, part: u32, rows: &[(u64, u64)], each: u64, number: u32) -> u64
+    requires is_part { part < parts_in (shape opening.now) }
+    requires rows { rows.now ≡ rows_of_part opening.now part }
+    requires each { each ≡ share_in opening.now part }
+    requires among { number < opening_count opening.now part }
+    ensures { result ≡ slice_index (opening_pivots opening.now part) number }
+{
+    if number == 0 {
+        opening.layout.parts().first_key(part)
+    } else {
+        rows[(u64::from(number) * each) as usize].0
+    }
+}
+
+fn lay_groups(
+    opening: &Opening,
+    part: u32,
+    rows: &[(u64, u64)],
+    groups: u32,
+    each: u64,
+    words: &mut Vec<u64>,
+)
+    requires is_part { part < parts_in (shape opening.now) }
+    requires rows { rows.now ≡ rows_of_part opening.now part }
+    requires groups { groups ≡ opening_count opening.now part }
+    requires each { each ≡ share_in opening.now part }
+    requires wide { length words.old.items ≡ word_count (shape opening.now) }
+    ensures { Lays opening.now (IsOfGroups opening.now part) words.old.items words.new.items }
+{
+    let first = opening.layout.first_group(part);
+    for number in 0..groups {
+        let pivot = pivot_of_group(opening, part, rows, each, number);
+        let next = if number + 1 < groups {
+            u64::from(first + number) + 2
+        } else {
+            0
+        };
+        let own = rows_of_number(rows, each, number);
+        lay_group(opening, first + number, pivot, next, own, words);
+    }
+}
+
+// The rows of the group with this number, where so many are given to each.
+fn rows_of_number<'a>(rows: &'a [(u64, u64)], each: u64, number: u32) -> &'a [(u64, u64)]
+    requires { number * each ≤ length rows.now }
+    ensures { result.now ≡ take each (drop (number * each) rows.now) }
+{
+    let begin = (u64::from(number) * each) as usize;
+    let left = rows.len() - begin;
+    &rows[begin..begin + left.min(each as usize)]
+}
+
+fn lay_group(
+    opening: &Opening,
+    group: u32,
+    pivot: u64,
+    next: u64,
+    rows: &[(u64, u64)],
+    words: &mut Vec<u64>,
+)
+    requires chained { is_in_opening_chain opening.now group ≡ true }
+    requires pivot { pivot ≡ opening_pivot opening.now group }
+    requires next { next ≡ opening_next opening.now group }
+    requires rows { rows.now ≡ rows_of_group opening.now group }
+    requires wide { length words.old.items ≡ word_count (shape opening.now) }
+    ensures { Lays opening.now (IsOfGroup opening.now group) words.old.items words.new.items }
+{
+    let layout = &opening.layout;
+    lay_header(layout, group, pivot, next, rows, words);
     fill_array(layout, group, rows, words);
 }
 
-// The root word is twice the number of slots in use, plus the side.
-const ONE_SLOT_OF_SIDE_0: u64 = 2;
-
-fn lay_root(layout: &Layout, part: u32, words: &mut Vec<u64>)
-    requires is_part { part < parts_in (shape_of layout.now) }
-    requires wide { length words.old.items ≡ word_count (shape_of layout.now) }
-    ensures { LaysRoot (shape_of layout.now) part words.old.items words.new.items }
-{
-    words[layout.root(part) as usize] = ONE_SLOT_OF_SIDE_0;
-    words[layout.slot(part, 0, 0) as usize] = layout.parts().first_key(part);
-    words[layout.slot_group(part, 0, 0) as usize] = u64::from(layout.first_group(part));
-}
-
-fn lay_header(layout: &Layout, group: u32, pivot: u64, rows: &[(u64, u64)], words: &mut Vec<u64>)
+fn lay_header(
+    layout: &Layout,
+    group: u32,
+    pivot: u64,
+    next: u64,
+    rows: &[(u64, u64)],
+    words: &mut Vec<u64>,
+)
     requires is_group { group < group_total (shape_of layout.now) }
     requires wide { length words.old.items ≡ word_count (shape_of layout.now) }
     requires rising { IsRising rows.now }
-    ensures { LaysHeader (shape_of layout.now) group pivot (keys_in rows.now) words.old.items
+    ensures { LaysHeader (shape_of layout.now) group pivot next (keys_in rows.now) words.old.items
         words.new.items }
 {
     let line = Line::of(&mut RowKeys { rows });
@@ -112,6 +221,7 @@ fn lay_header(layout: &Layout, group: u32, pivot: u64, rows: &[(u64, u64)], word
     words[layout.header(group, HeaderWord::Pivot.number()) as usize] = pivot;
     words[layout.header(group, HeaderWord::Size.number()) as usize] = rows.len() as u64;
     words[layout.header(group, HeaderWord::LineError.number()) as usize] = line.error() as u64;
+    words[layout.header(group, HeaderWord::Next.number()) as usize] = next;
     words[layout.header(group, HeaderWord::Lanes.number()) as usize] = u64::from(lanes);
     lay_cuts(layout, group, pivot, rows, words);
 }

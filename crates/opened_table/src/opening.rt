@@ -1,7 +1,8 @@
 //! What a table is opened with.
-ghost use Rattle.std.specs.Prelude.{◌≡◌, ◌<◌, ◌≤◌, ◌^◌, IfOk, length};
+ghost use Rattle.std.specs.Prelude.{◌≡◌, ◌<◌, ◌^◌, IfOk};
 ghost use Rattle.map_model.specs.Map.{IsRising};
-ghost use Rattle.word_layout.specs.Layout.{limits_of};
+ghost use Rattle.word_layout.specs.Layout.{shape_of};
+ghost use Rattle.index_machine.specs.OpeningPlan.{FitsTable};
 
 use index_machine::Opening;
 use std::alloc::{AllocError, Global};
@@ -15,7 +16,7 @@ pub fn opening_with(
     rows: &[(u64, u64)],
 ) -> Result<Opening, AllocError>
     requires rising { IsRising rows.now }
-    requires few { length rows.now ≤ (limits_of layout.now).group_size }
+    requires fits { FitsTable (shape_of layout.now) rows.now }
     ensures layout { IfOk result (λ opening. opening.layout ≡ layout.now) }
     ensures rows { IfOk result (λ opening. opening.rows ≡ rows.now) }
 {

@@ -55,7 +55,7 @@ no_array o t empty valid built group k place is =
     let row = opening_role-array o place group k
     ((arrays_as_opened o t valid built group k place).1 is) in
     let none : opening_row o place ≡ None =
-    ap (λ (all : Map). row_from (shape_of o.layout) 0 0 all place) empty in
+    ap (λ (all : Map). row_from (shape_of o.layout) (opening_group o) 0 0 all place) empty in
     no_pair (sym none ∙ row.2)
 
 -- a key without a row in the buffer of its group is not in the map

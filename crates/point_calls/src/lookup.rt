@@ -6,7 +6,7 @@ ghost use Rattle.index_rule.specs.Looks.{MayWriteLook};
 ghost use Rattle.tried_calls.specs.declared.tried.Tried.TheVariants.{Done};
 ghost use Rattle.index_rule.specs.Calls.{CanCall};
 ghost use Rattle.point_calls.specs.Exchanges.{MakesFewExchanges, no_exchange};
-ghost use Rattle.point_calls.specs.PointCalls.{IsOneSection, KeepsRows, LooksUp};
+ghost use Rattle.point_calls.specs.PointCalls.{IsOneSection, KeepsRows, LooksUp, OpensEmpty};
 ghost use Rattle.point_calls.specs.Lookup.{ComesTo, HasMissed, Reaches};
 
 use index_rule::{Board, Hand};
@@ -19,7 +19,8 @@ use tried_calls::Tried;
 /// lanes.
 #[inline]
 pub(crate) fn locate(board: &Board, hand: &mut Hand, key: u64) -> Lane
-    requires { CanCall board.now hand.old }
+    requires empty { OpensEmpty board.now }
+    requires call { CanCall board.now hand.old }
     ensures comes { ComesTo board.now hand.old key result hand.new }
     ensures rows { KeepsRows board.now hand.old hand.new }
 {
@@ -31,6 +32,7 @@ pub(crate) fn locate(board: &Board, hand: &mut Hand, key: u64) -> Lane
 /// Loads the root word of the part, and the group of its one slot.
 #[inline]
 fn reach(board: &Board, hand: &mut Hand, part: u32) -> u32
+    requires empty { OpensEmpty board.now }
     requires call { CanCall board.now hand.old }
     requires part { IsPart (opening_of board.now) part }
     ensures comes { Reaches board.now hand.old part result hand.new }

@@ -1,8 +1,11 @@
 -- What follows of the plan's pivots, cuts and slots over rising keys.
-use Rattle.std.proofs.Common.{ℕ, zero, suc, ◌≡◌, ◌+◌, ◌<◌, List, length, get_or, take, drop, arith, refl, ap, ◌∙◌, length-take, length-drop}
+use Rattle.std.proofs.Common.{ℕ, zero, suc, ◌≡◌, ◌+◌, ◌-◌, ◌<◌, ◌≤◌, List, length, get_or, take, drop, arith, refl, ap, ◌∙◌, length-take, length-drop}
+use Rattle.std.specs.List.Sorted.{IsStrictlyIncreasing}
+use Rattle.std.proofs.lemmas.List.FromFn.{length-map-range_with_len, get_or-map-range_with_len}
 use Rattle.std.proofs.lemmas.List.{get_or-take, get_or-drop}
 use Rattle.rebuild_plan.specs.Plan.{first_record, record_count, group_count, lane_count, lane_width, step_of, slot_count, slot_group, IsGivenTo}
-use Rattle.rebuild_plan.specs.Keys.{pivot_of, cut_of, slot_pivot, group_keys, planned_share}
+use Rattle.rebuild_plan.specs.Keys.{RiseFrom, pivot_of, cut_of, slot_pivot, group_keys, planned_share}
+use Rattle.rebuild_plan.specs.Keys.{later_pivots, planned_pivots, PivotsAreListed}
 use Rattle.rebuild_plan.specs.Keys.{PivotsDivideTheKeys, CutsDivideTheKeys, CutsLieInTheirGroup, SlotsDivideThePivots}
 use Rattle.rebuild_plan.proofs.Rounding.{div_ceil-pos, below_div_ceil}
 use Rattle.rebuild_plan.proofs.SharesLaws.{first_record-below}
@@ -18,6 +21,46 @@ pivots_divide first_pivot keys group_size big rise =
       key = λ before. refl;
       within = λ group later among. first_record-below (length keys) group_size group big later among;
     }
+
+-- ---- the list of all pivots ----
+
+pub pivots-length : (first_pivot : ℕ) (keys : List ℕ) (group_size : ℕ) →
+    length (planned_pivots first_pivot keys group_size) ≡ group_count (length keys) group_size
+pivots-length first_pivot keys group_size =
+    let share : ℕ = planned_share keys group_size in
+    let groups : ℕ = group_count (length keys) group_size in
+    let long : length (later_pivots keys group_size) ≡ groups - 1 =
+    length-map-range_with_len (λ (group : ℕ). get_or keys (first_record share group) 0) 1 (groups - 1)
+    in
+    omega arith
+
+pub pivots-at : (first_pivot : ℕ) (keys : List ℕ) (group_size group : ℕ) →
+    group < group_count (length keys) group_size →
+    get_or (planned_pivots first_pivot keys group_size) group 0 ≡ pivot_of first_pivot keys group_size group
+pivots-at first_pivot keys group_size zero among = refl
+pivots-at first_pivot keys group_size (suc before) among =
+    let share : ℕ = planned_share keys group_size in
+    let groups : ℕ = group_count (length keys) group_size in
+    get_or-map-range_with_len (λ (group : ℕ). get_or keys (first_record share group) 0) 1 (groups - 1)
+    before (suc before) 0 (omega arith) (omega arith)
+
+pub pivots_rise : (first_pivot : ℕ) (keys : List ℕ) (group_size : ℕ) → 8 ≤ group_size →
+    RiseFrom first_pivot keys → IsStrictlyIncreasing (planned_pivots first_pivot keys group_size)
+pivots_rise first_pivot keys group_size big rise group next =
+    let long = pivots-length first_pivot keys group_size in
+    let up = (pivots_divide first_pivot keys group_size big rise).rise group (group + 1) (omega arith)
+    (omega arith) in
+    let here = pivots-at first_pivot keys group_size group (omega arith) in
+    let behind = pivots-at first_pivot keys group_size (group + 1) (omega arith) in
+    omega (arith, up, here, behind)
+
+pub pivots_listed : PivotsAreListed
+pivots_listed first_pivot keys group_size big rise =
+    let long = pivots-length first_pivot keys group_size in (
+      long,
+      λ group among. pivots-at first_pivot keys group_size group (omega arith),
+      pivots_rise first_pivot keys group_size big rise,
+    )
 
 pub cuts_divide : CutsDivideTheKeys
 cuts_divide pivot keys rise =

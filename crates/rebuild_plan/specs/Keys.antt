@@ -1,5 +1,6 @@
 -- Where groups, lanes and slots begin, over the keys of the counted records in rising order.
-use Rattle.std.specs.Prelude.{◌≡◌, ℕ, zero, suc, ◌+◌, ◌<◌, ◌≤◌, List, [], ◌∷◌, length, slice_index, take, drop}
+use Rattle.std.specs.Prelude.{◌≡◌, ℕ, zero, suc, ◌+◌, ◌-◌, ◌<◌, ◌≤◌, List, [], ◌∷◌, length, slice_index, take, drop, map}
+use Rattle.std.specs.List.{range_with_len}
 use Rattle.std.specs.List.Sorted.{IsStrictlyIncreasing}
 use Rattle.rebuild_plan.specs.Plan.{group_count, share_of, first_record, record_count, IsGivenTo, lane_width, lane_count, step_of, slot_count, slot_group}
 
@@ -15,6 +16,16 @@ abbrev pub pivot_of : (first_pivot : ℕ) (keys : List ℕ) (group_size group : 
 pivot_of first_pivot keys group_size zero = first_pivot
 pivot_of first_pivot keys group_size (suc before) =
     slice_index keys (first_record (planned_share keys group_size) (suc before))
+
+-- the pivots of the new groups behind the first, in their order
+abbrev pub later_pivots : (keys : List ℕ) (group_size : ℕ) → List ℕ
+later_pivots keys group_size =
+    map (λ group. slice_index keys (first_record (planned_share keys group_size) group))
+    (range_with_len 1 (group_count (length keys) group_size - 1))
+
+-- the pivots of all new groups, in their order
+abbrev pub planned_pivots : (first_pivot : ℕ) (keys : List ℕ) (group_size : ℕ) → List ℕ
+planned_pivots first_pivot keys group_size = first_pivot ∷ later_pivots keys group_size
 
 -- the keys of the records that a new group is given
 abbrev pub group_keys : (keys : List ℕ) (group_size group : ℕ) → List ℕ
@@ -63,6 +74,16 @@ PivotsDivideTheKeys = (first_pivot : ℕ) (keys : List ℕ) (group_size : ℕ) �
 abbrev pub CutsDivideTheKeys : Type 0
 CutsDivideTheKeys = (pivot : ℕ) (keys : List ℕ) → RiseFrom pivot keys →
     DividesKeys (cut_of pivot keys) keys (lane_count (length keys)) (lane_width (length keys))
+
+-- each planned group has its pivot in the list of them, which rises
+abbrev pub PivotsAreListed : Type 0
+PivotsAreListed = (first_pivot : ℕ) (keys : List ℕ) (group_size : ℕ) → 8 ≤ group_size →
+    RiseFrom first_pivot keys →
+    let listed = planned_pivots first_pivot keys group_size in
+    (length listed ≡ group_count (length keys) group_size)
+    × ((group : ℕ) → group < length listed →
+    slice_index listed group ≡ pivot_of first_pivot keys group_size group)
+    × IsStrictlyIncreasing listed
 
 -- the planned groups have as many keys as records, which rise from their pivots
 abbrev pub GroupsHaveTheirKeys : Type 0

@@ -1,7 +1,7 @@
 -- As long as nothing is rebuilt, the rows of a part's keys stand in the one lane of the part's first group.
 use Rattle.std.proofs.Common.{◌≡◌, inl, ⊎_elim, ℕ, Bool, false, cond, ◌==◌, Some, None}
 use Rattle.std.proofs.Common.{List, [], ◌∷◌, length, ◌<◌, ◌≤◌, refl, sym, ap, ◌∙◌, arith}
-use Rattle.std.proofs.lemmas.Bool.{cases_lt, le-ltb, lt-leb}
+use Rattle.std.proofs.lemmas.Bool.{cases_lt, le-ltb}
 use Rattle.map_model.specs.Map.{Map}
 use Rattle.rebuild_plan.specs.Plan.{lane_count}
 use Rattle.word_layout.specs.Parts.{first_key_of, greatest_key, part_with}
@@ -16,18 +16,20 @@ use Rattle.index_machine.specs.declared.opening.Opening.{Opening}
 use Rattle.index_machine.specs.Conditions.{Valid}
 use Rattle.index_machine.specs.Execution.{Execution}
 use Rattle.index_machine.specs.Lanes.{HasLane, begun_after, begun_word, cut, lanes}
-use Rattle.index_machine.specs.OpeningRows.{is_in_opening_chain, keys_for, opening_keys, opening_pivot}
+use Rattle.index_machine.specs.OpeningPlan.{keys_for}
+use Rattle.index_machine.specs.OpeningRows.{is_in_opening_chain, opening_keys, opening_pivot}
 use Rattle.index_machine.specs.Openings.{opening_group}
 use Rattle.index_machine.specs.Rows.{InBuffer, role}
 use Rattle.index_machine.specs.Words.{limits, shape, opening_cut, opening_word, word}
-use Rattle.index_machine.proofs.OpeningGroups.{first_in_chain, opening_pivot-group}
-use Rattle.index_machine.proofs.OpeningRows.{first_group_for-key}
+use Rattle.index_machine.proofs.OpeningGroups.{first_in_chain, opening_pivot-group, row-pivot}
+use Rattle.index_machine.proofs.OpeningPlan.{opening_group-beyond, row_of}
 use Rattle.machine_buffers.specs.Lanes.{lane_end, link_from}
 use Rattle.machine_buffers.specs.Walks.{IsWalkable}
 use Rattle.machine_buffers.proofs.BegunLanes.{rows_have_lanes}
 use Rattle.machine_buffers.proofs.Walks.{of_keys}
 use Rattle.index_rule.specs.Built.{AreBuilt, IsBuilt}
 use Rattle.index_rule.proofs.BuiltLaws.{groups_as_opened, rows_in_group}
+use Rattle.index_rule.proofs.OneGroups.{group_of_part, empty_one_group_each}
 
 some_group : (o : Opening) → 0 < (limits o).groups
 some_group o = let least = o.layout.kept.least_groups in omega arith
@@ -54,10 +56,12 @@ module _ (o : Opening) (t : Execution) (valid : Valid o t) (none : o.rows ≡ []
   group = first_group_of (shape o) part
 
   no_keys : opening_keys o group ≡ []
-  no_keys = ap (keys_for (shape o) group) none
+  no_keys = ap (keys_for (opening_group o) group) none
 
   pivot_is : opening_pivot o group ≡ first_key_of (shape o).bounds part
-  pivot_is = ap (first_key_of (shape o).bounds) (first_group-part (shape o) part (some_group o))
+  pivot_is =
+      let here : group ≡ row_of o part 0 = omega arith in
+      ap (opening_pivot o) here ∙ row-pivot o part 0 (some_group o)
 
   -- its buffer has one lane, from the part's least key on
   one_lane : lanes o group t ≡ 1
@@ -104,7 +108,7 @@ row_of_key o t place g k valid built e =
     ⊎_elim
     (λ (above : greatest_key < k).
     let its = rows_in_group o t valid built place g k e in
-    let past : opening_group o k ≡ group_total (shape o) = rw (lt-leb k greatest_key above) refl in
+    let past = opening_group-beyond o k above in
     let last : g ≡ group_total (shape o) = its ∙ past in
     let lane = rows_have_lanes o t valid g k place e in
     let some = lane.1.is_lane in
@@ -120,16 +124,16 @@ row_of_key o t place g k valid built e =
     out h past = rw (le-ltb h (group_total (shape o)) past) refl
 
 -- the row of a key stands in the first group of its part
-pub row_group : (o : Opening) (t : Execution) (place g k : ℕ) → Valid o t → AreBuilt t →
+pub row_group : (o : Opening) (t : Execution) (place g k : ℕ) → Valid o t → o.rows ≡ [] → AreBuilt t →
     role o place t ≡ InBuffer g k → g ≡ first_group_of (shape o) (part_with (shape o).bounds k)
-row_group o t place g k valid built e =
+row_group o t place g k valid none built e =
     rows_in_group o t valid built place g k e
-    ∙ first_group_for-key (shape o) k (row_of_key o t place g k valid built e)
+    ∙ group_of_part o (empty_one_group_each o none) k (row_of_key o t place g k valid built e)
 
 -- so a row in the first group of a part has a key of the part
-pub row_part : (o : Opening) (t : Execution) (place part k : ℕ) → Valid o t → AreBuilt t →
+pub row_part : (o : Opening) (t : Execution) (place part k : ℕ) → Valid o t → o.rows ≡ [] → AreBuilt t →
     role o place t ≡ InBuffer (first_group_of (shape o) part) k → part_with (shape o).bounds k ≡ part
-row_part o t place part k valid built e =
-    let same = row_group o t place (first_group_of (shape o) part) k valid built e in
+row_part o t place part k valid none built e =
+    let same = row_group o t place (first_group_of (shape o) part) k valid none built e in
     sym (first_group-part (shape o) (part_with (shape o).bounds k) (some_group o))
     ∙ (ap (part_of_group (shape o)) (sym same) ∙ first_group-part (shape o) part (some_group o))

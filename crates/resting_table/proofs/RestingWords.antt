@@ -27,7 +27,7 @@ use Rattle.index_machine.specs.Forms.{Blank, Copied, Form, HasValueWord, Locked,
 use Rattle.index_machine.specs.Forms.{Unlocked, live_value, state_word, unless}
 use Rattle.index_machine.specs.LivePlaces.{history, live_place, value_in_map}
 use Rattle.index_machine.specs.Openings.{opening_map}
-use Rattle.index_machine.specs.OpeningRows.{place_from}
+use Rattle.index_machine.specs.OpeningRows.{opening_group, place_from}
 use Rattle.index_machine.specs.Permissions.{IsBufferFor}
 use Rattle.index_machine.specs.Places.{form}
 use Rattle.index_machine.specs.RecordConditions.{HasKey}
@@ -134,7 +134,7 @@ module _ (l : Layout) (ws : List ℕ) (o : Opening) (t : Execution) (rest : Leav
   lane_of_row p is_part k place at =
       has_lane o t rest.valid rest.empty rest.built p is_part k
       (subst (λ (q : ℕ). first_key_of (shape o).bounds q ≤ k)
-      (row_part o t place p k rest.valid rest.built at)
+      (row_part o t place p k rest.valid rest.empty rest.built at)
       (part_with-has (shape o).bounds k o.layout.cut
       (row_of_key o t place (first_group_of (shape o) p) k rest.valid rest.built at)).from)
 
@@ -294,7 +294,7 @@ module _ (l : Layout) (ws : List ℕ) (o : Opening) (t : Execution) (rest : Leav
       let first = (arrays_as_opened o t rest.valid rest.built g k place).1 e in
       let row = opening_role-array o place g k first in
       none_some
-      (sym (ap (λ (m : Map). place_from (shape o) 0 0 m k) rest.empty)
+      (sym (ap (λ (m : Map). place_from (shape o) (opening_group o) 0 0 m k) rest.empty)
       ∙ opening_row-live o place k row.1 row.2)
 
   -- a live place is that of a row of the key's part
@@ -308,7 +308,7 @@ module _ (l : Layout) (ws : List ℕ) (o : Opening) (t : Execution) (rest : Leav
       (λ (y : (g : ℕ) × (role o place t ≡ InBuffer g k) × IsBufferFor o k g t).
       all_listed o t rest.valid (first_group_of (shape o) (of k)) k place
       (subst (λ (g : ℕ). role o place t ≡ InBuffer g k)
-      (row_group o t place y.0 k rest.valid rest.built y.1) y.1)) z)
+      (row_group o t place y.0 k rest.valid rest.empty rest.built y.1) y.1)) z)
       (live_places o t rest.valid k place e)
 
   -- a key without a live value is not in the map

@@ -92,7 +92,7 @@ module _ (o : Opening) (t : Execution) (valid : Valid o t) (none : o.rows ≡ []
   own_row part k q is_part e = (walkable o t valid none built part is_part).standing k q e
 
   own_part : (part k q : ℕ) → part < parts_in (shape o) → look (own part) k ≡ Some q → of k ≡ part
-  own_part part k q is_part e = row_part o t q part k valid built (own_row part k q is_part e)
+  own_part part k q is_part e = row_part o t q part k valid none built (own_row part k q is_part e)
 
   not_own : (part k : ℕ) → part < parts_in (shape o) → of k ≢ part → look (own part) k ≡ None
   not_own part k is_part other =

@@ -13,7 +13,7 @@ use Rattle.word_layout.specs.Parts.{first_key_of, last_key_of, part_with, IsKeyO
 -- ---- lists that rise ----
 
 -- each number is above the one before it, and the first is above x
-abbrev Rises : ℕ → List ℕ → Type 0
+abbrev pub Rises : ℕ → List ℕ → Type 0
 Rises x [] = Unit {0}
 Rises x (b ∷ bs) = (x < b) × Rises b bs
 
@@ -23,12 +23,12 @@ tail_increasing x xs up k h =
     let next : suc k + 1 ≡ suc (k + 1) = omega arith in
     subst (λ (n : ℕ). get_or xs k 0 < get_or (x ∷ xs) n 0) next behind
 
-rises : (x : ℕ) (xs : List ℕ) → IsStrictlyIncreasing (x ∷ xs) → Rises x xs
+pub rises : (x : ℕ) (xs : List ℕ) → IsStrictlyIncreasing (x ∷ xs) → Rises x xs
 rises x [] up = tt
 rises x (b ∷ bs) up = (up 0 (omega arith), rises b bs (tail_increasing x (b ∷ bs) up))
 
 -- the number at each index is above x
-above_first : (x : ℕ) (xs : List ℕ) (i : ℕ) → Rises x xs → i < length xs → x < get_or xs i 0
+pub above_first : (x : ℕ) (xs : List ℕ) (i : ℕ) → Rises x xs → i < length xs → x < get_or xs i 0
 above_first x [] i up h = absurd (omega arith)
 above_first x (b ∷ bs) zero up h = up.0
 above_first x (b ∷ bs) (suc i) up h =
@@ -84,11 +84,11 @@ part_with-first b bs key up h =
     part_with-none key (b ∷ bs) key from (omega arith)
 
 -- the key lies from the last bound that counts to before the next, where bounds rise from x
-record Lies (x : ℕ) (bs : List ℕ) (part key : ℕ) : Type 0 where
-  from : get_or (x ∷ bs) part 0 ≤ key
-  before : part < length bs → key < get_or bs part 0
+pub record Lies (x : ℕ) (bs : List ℕ) (part key : ℕ) : Type 0 where
+  pub from : get_or (x ∷ bs) part 0 ≤ key
+  pub before : part < length bs → key < get_or bs part 0
 
-lies : (x : ℕ) (bs : List ℕ) (key : ℕ) → Rises x bs → x ≤ key → Lies x bs (part_with bs key) key
+pub lies : (x : ℕ) (bs : List ℕ) (key : ℕ) → Rises x bs → x ≤ key → Lies x bs (part_with bs key) key
 lies x [] key up h = record { from = h; before = λ short. absurd (omega arith) }
 lies x (b ∷ bs) key up h =
     ⊎_elim
@@ -102,7 +102,7 @@ lies x (b ∷ bs) key up h =
     (cases_lt key b)
 
 -- no other place is such a one
-lies_alone : (x : ℕ) (bs : List ℕ) (part key : ℕ) → Rises x bs → part ≤ length bs →
+pub lies_alone : (x : ℕ) (bs : List ℕ) (part key : ℕ) → Rises x bs → part ≤ length bs →
     Lies x bs part key → part ≡ part_with bs key
 lies_alone x [] part key up short at = omega arith
 lies_alone x (b ∷ bs) zero key up short at =

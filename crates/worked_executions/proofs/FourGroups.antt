@@ -1,5 +1,5 @@
 -- A table with four groups, the events of two rebuilds on it, and its keys in two ranges.
-use Rattle.std.proofs.Common.{◌≡◌, ◌≢◌, ℕ, ◌*◌, ◌<◌, ◌≤◌, nat_le, inl, inr, ⊎_elim, Option, Some}
+use Rattle.std.proofs.Common.{◌≡◌, ◌≢◌, ℕ, ◌+◌, ◌*◌, ◌<◌, ◌≤◌, nat_le, inl, inr, ⊎_elim, Option, Some}
 use Rattle.std.proofs.Common.{None, Bool, true, false, [], ◌∷◌, cond, refl, sym, ◌∙◌, subst}
 use Rattle.std.proofs.Common.{arith, nat_lt, ◌⊎◌}
 use Rattle.worked_executions.proofs.Equations.{Same, SameOption}
@@ -73,7 +73,7 @@ o =
       layout = four_group_layout;
       rows = [];
       rising = tt;
-      few = omega arith;
+      fits = λ part is_part. omega arith;
       keys = tt;
     }
 
@@ -327,21 +327,21 @@ first_slot_used = (1, refl, omega arith, omega arith)
 
 -- ---- what the first slots name: at first, after the first install, and after the second ----
 
-pub named_0 : (g : ℕ) → 1 ≤ g → g < 4 → (p : ℕ) → Same (p * 4) g → ⊥
+pub named_0 : (g : ℕ) → 1 ≤ g → g < 4 → (p : ℕ) → Same (p * 4 + 0) g → ⊥
 named_0 g some exists p e = omega (arith, e)
 
-pub named_1 : (g : ℕ) → 1 ≢ g → g < 4 → (p : ℕ) → Same (first_slot 0 p 1 (p * 4)) g → ⊥
+pub named_1 : (g : ℕ) → 1 ≢ g → g < 4 → (p : ℕ) → Same (first_slot 0 p 1 (p * 4 + 0)) g → ⊥
 named_1 g other exists p e = ⊎_elim
     (λ (z : Same 0 p × Same 1 g). other z.1)
-    (λ (z : (0 ≢ p) × Same (p * 4) g). let n = z.0 in let is = z.1 in omega (arith, n, is))
-    (first_slot_is 0 p 1 (p * 4) g e)
+    (λ (z : (0 ≢ p) × Same (p * 4 + 0) g). let n = z.0 in let is = z.1 in omega (arith, n, is))
+    (first_slot_is 0 p 1 (p * 4 + 0) g e)
 
 pub named_3 : (g : ℕ) → 3 ≢ g → g < 4 → (p : ℕ) →
-    Same (first_slot 0 p 3 (first_slot 0 p 1 (p * 4))) g → ⊥
+    Same (first_slot 0 p 3 (first_slot 0 p 1 (p * 4 + 0))) g → ⊥
 named_3 g other exists p e = ⊎_elim
     (λ (z : Same 0 p × Same 3 g). other z.1)
-    (λ (z : (0 ≢ p) × Same (first_slot 0 p 1 (p * 4)) g). ⊎_elim
+    (λ (z : (0 ≢ p) × Same (first_slot 0 p 1 (p * 4 + 0)) g). ⊎_elim
     (λ (y : Same 0 p × Same 1 g). z.0 y.0)
-    (λ (y : (0 ≢ p) × Same (p * 4) g). let n = y.0 in let is = y.1 in omega (arith, n, is))
-    (first_slot_is 0 p 1 (p * 4) g z.1))
-    (first_slot_is 0 p 3 (first_slot 0 p 1 (p * 4)) g e)
+    (λ (y : (0 ≢ p) × Same (p * 4 + 0) g). let n = y.0 in let is = y.1 in omega (arith, n, is))
+    (first_slot_is 0 p 1 (p * 4 + 0) g z.1))
+    (first_slot_is 0 p 3 (first_slot 0 p 1 (p * 4 + 0)) g e)

@@ -19,3 +19,4 @@ pub mod BegunMeanwhile
 pub mod TwoPartTable
 pub mod TwoKeepers
 pub mod TwoInstalls
+pub mod SeveralGroups

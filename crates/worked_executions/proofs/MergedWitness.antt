@@ -1,5 +1,5 @@
 -- The keeper merges group 0 into group 1, installs this and copies the record.
-use Rattle.std.proofs.Common.{◌≡◌, ◌≢◌, ℕ, ◌*◌, ◌⊎◌, inl, inr, ⊎_elim, Some}
+use Rattle.std.proofs.Common.{◌≡◌, ◌≢◌, ℕ, ◌+◌, ◌*◌, ◌⊎◌, inl, inr, ⊎_elim, Some}
 use Rattle.std.proofs.Common.{None, Bool, true, false, [], ◌∷◌, cond, refl, sym, ap, ◌∙◌, subst}
 use Rattle.std.proofs.Common.{arith}
 use Rattle.std.specs.Prelude.{◌==◌, nat_le}
@@ -138,11 +138,11 @@ installs_it = one_installs o merged_3 0 0 greatest_key 1 only_1 1 0 refl first_s
 -- ---- after the install group 0 is gone ----
 
 -- after the install the first slot of the part names group 1, and the parts behind it have other groups
-pub other_slot : (p : ℕ) → Same (first_slot 0 p 1 (p * 2)) 0 → ⊥
+pub other_slot : (p : ℕ) → Same (first_slot 0 p 1 (p * 2 + 0)) 0 → ⊥
 other_slot p e = ⊎_elim
     (λ (z : Same 0 p × Same 1 0). let bad = z.1 in omega (arith, bad))
-    (λ (z : (0 ≢ p) × Same (p * 2) 0). let n = z.0 in let is = z.1 in omega (arith, n, is))
-    (first_slot_is 0 p 1 (p * 2) 0 e)
+    (λ (z : (0 ≢ p) × Same (p * 2 + 0) 0). let n = z.0 in let is = z.1 in omega (arith, n, is))
+    (first_slot_is 0 p 1 (p * 2 + 0) 0 e)
 
 pub gone0_rebuilt_1 : IsGone o 0 rebuilt_1
 gone0_rebuilt_1 = gone_if o caller_is rebuilt_1 0 (λ p. refl) (λ p w e. none_some e) other_slot refl

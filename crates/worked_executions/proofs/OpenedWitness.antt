@@ -1,6 +1,6 @@
 -- The keeper freezes group 0, writes the header of group 1, begins it with two lanes and opens group 0
 -- to it.
-use Rattle.std.proofs.Common.{◌≡◌, ℕ, ◌*◌, ◌≤◌, inl, Some, None, Bool, true, false}
+use Rattle.std.proofs.Common.{◌≡◌, ℕ, ◌+◌, ◌*◌, ◌≤◌, inl, Some, None, Bool, true, false}
 use Rattle.std.proofs.Common.{cond, refl, sym, ap, ◌∙◌, arith}
 use Rattle.std.specs.Prelude.{◌==◌, nat_le}
 use mathlib.Core.Logic.{dite}
@@ -44,7 +44,7 @@ pub frozen_unopened : (w : Bool) (f : ℕ) → cond w Frozen Open ≡ Opened f �
 frozen_unopened true f e = cc
 frozen_unopened false f e = cc
 
-other_slot : (p : ℕ) → Same (p * 2) 1 → ⊥
+other_slot : (p : ℕ) → Same (p * 2 + 0) 1 → ⊥
 other_slot p e = omega (arith, e)
 
 pub gone1_opened_1 : IsGone o 1 opened_1

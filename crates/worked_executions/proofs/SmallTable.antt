@@ -70,7 +70,7 @@ o =
       layout = small_layout;
       rows = [];
       rising = tt;
-      few = omega arith;
+      fits = λ part is_part. omega arith;
       keys = tt;
     }
 

@@ -1,6 +1,6 @@
 -- The keeper of part 1 freezes and begins its group between the steps of that of part 0, up to the new row of the
 -- caller.
-use Rattle.std.proofs.Common.{◌≡◌, ◌≢◌, ℕ, ◌*◌, ◌≤◌, inl, inr, Some, None, Bool, true, false}
+use Rattle.std.proofs.Common.{◌≡◌, ◌≢◌, ℕ, ◌+◌, ◌*◌, ◌≤◌, inl, inr, Some, None, Bool, true, false}
 use Rattle.std.proofs.Common.{[], ◌∷◌, cond, refl, sym, ap, ◌∙◌, arith}
 use Rattle.std.specs.Prelude.{◌==◌}
 use mathlib.Core.Logic.{dite}
@@ -58,7 +58,7 @@ opened_first g f e = dite (ℕ_discrete 0 g)
 
 gone1_frozen_0 : IsGone o 1 frozen_0
 gone1_frozen_0 = gone_if o caller_is frozen_0 1 (λ p. refl) (λ p w e. none_some e)
-    (λ p e. let bad : Same (p * 2) 1 = e in omega (arith, bad)) refl not_1_in_0
+    (λ p e. let bad : Same (p * 2 + 0) 1 = e in omega (arith, bad)) refl not_1_in_0
 
 free1_frozen_0 : IsFreeRow o 1 1 frozen_0
 free1_frozen_0 = record {
@@ -94,7 +94,7 @@ begins1 = record {
   );
   first_in_part = refl;
   gone = gone_if o caller_is both_frozen 1 (λ p. refl) (λ p w e. none_some e)
-      (λ p e. let bad : Same (p * 2) 1 = e in omega (arith, bad)) refl not_1_in_0;
+      (λ p e. let bad : Same (p * 2 + 0) 1 = e in omega (arith, bad)) refl not_1_in_0;
   settled = λ f e. absurd (none_frozen 1 f e);
   phase_word = refl;
   new_lanes = one_lane o 1 0 9 both_frozen (omega arith) refl refl (λ i from. refl) (λ i. refl);
@@ -112,7 +112,7 @@ begins1 = record {
 
 gone3 : IsGone o 3 begun_1
 gone3 = gone_if o caller_is begun_1 3 (λ p. refl) (λ p w e. none_some e)
-    (λ p e. let bad : Same (p * 2) 3 = e in omega (arith, bad)) refl not_3_in_0
+    (λ p e. let bad : Same (p * 2 + 0) 3 = e in omega (arith, bad)) refl not_3_in_0
 
 free3_begun : IsFreeRow o 2 3 begun_1
 free3_begun = record {
@@ -203,7 +203,7 @@ seen_by_caller p w e = seen_roots (0 == p) w e
 
 gone3_inside : IsGone o 3 caller_in_first
 gone3_inside = gone_if o caller_is caller_in_first 3 (λ p. refl) seen_by_caller
-    (λ p e. let bad : Same (p * 2) 3 = e in omega (arith, bad)) refl not_3_in_0
+    (λ p e. let bad : Same (p * 2 + 0) 3 = e in omega (arith, bad)) refl not_3_in_0
 
 -- a key of part 1 is in no opened group
 idle1 : (k f : ℕ) → IsKeyIn o 1 k → phase (group_of o k caller_in_first) caller_in_first ≢ Opened f

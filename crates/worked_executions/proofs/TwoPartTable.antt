@@ -81,7 +81,7 @@ o =
       layout = two_part_layout;
       rows = [];
       rising = tt;
-      few = omega arith;
+      fits = λ part is_part. omega arith;
       keys = tt;
     }
 
@@ -190,7 +190,7 @@ at_key P low high none k = ⊎_elim
 -- the group of a key, and its new group, by its ranges: at first, with group 1 begun, with group 3 begun too, after
 -- the one install, and after the other
 abbrev pub group_0 : Bool → Bool → ℕ
-group_0 v u = cond v ((0 + cond u 1 0) * 2) 4
+group_0 v u = cond v ((0 + cond u 1 0) * 2 + 0) 4
 
 abbrev pub new_1 : Bool → Option ℕ
 new_1 a = cond a (Some 1) None

@@ -1,6 +1,7 @@
-//! Executions that are valid. Each function is a law and does nothing.
+//! Executions that are valid, and openings that there are. Each function is a law and does nothing.
 ghost use Rattle.worked_executions.specs.BegunMeanwhile.{NoGroupIsBegunMeanwhile};
 ghost use Rattle.worked_executions.specs.NameUsedAgain.{NamesAreUsedAgain};
+ghost use Rattle.worked_executions.specs.SeveralGroups.{SeveralGroupsAreOpened};
 ghost use Rattle.worked_executions.specs.TwoParts.{TwoPartsAreRebuiltAtOnce};
 ghost use Rattle.worked_executions.specs.Witness.{WholeRebuildIsValid};
 
@@ -24,4 +25,10 @@ pub fn no_group_is_begun_meanwhile()
 /// The keepers of two parts are at different stages of a rebuild at once, and both install.
 pub fn two_parts_are_rebuilt_at_once()
     ensures { TwoPartsAreRebuiltAtOnce }
+{}
+
+/// A table opens with several groups in a part, chained and with slots at equal steps, and the chain of a part ends
+/// before the first group of the next part.
+pub fn several_groups_are_opened()
+    ensures { SeveralGroupsAreOpened }
 {}

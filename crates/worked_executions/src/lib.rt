@@ -1,5 +1,5 @@
 //! Whole rebuilds, event by event, as valid executions: the conditions of their steps can be met
-//! together.
+//! together. And tables that open with several groups in a part.
 //!
 //! They show no more than what happens in them. No caller is inside a part at a step of the part's
 //! keeper, but at one install. No group that an install replaces has a left neighbour in the chain,
@@ -10,6 +10,6 @@
 mod laws;
 
 pub use laws::{
-    names_are_used_again, no_group_is_begun_meanwhile, two_parts_are_rebuilt_at_once,
-    whole_rebuild_is_valid,
+    names_are_used_again, no_group_is_begun_meanwhile, several_groups_are_opened,
+    two_parts_are_rebuilt_at_once, whole_rebuild_is_valid,
 };

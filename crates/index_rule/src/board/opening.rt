@@ -1,8 +1,9 @@
 //! A board is opened, with a hand for each caller and one for the keeper of each part.
-ghost use Rattle.std.specs.Prelude.{◌≡◌, ◌≤◌, ◌+◌, IfOk, [], length};
+ghost use Rattle.std.specs.Prelude.{◌≡◌, ◌+◌, IfOk, []};
 ghost use Rattle.map_model.specs.Map.{IsRising};
-ghost use Rattle.word_layout.specs.Layout.{limits_of};
+ghost use Rattle.word_layout.specs.Layout.{shape_of};
 ghost use Rattle.word_layout.specs.Shape.{parts_in};
+ghost use Rattle.index_machine.specs.OpeningPlan.{FitsTable};
 ghost use Rattle.index_machine.specs.Words.{limits, shape};
 ghost use Rattle.index_rule.specs.Rule.{first_view};
 ghost use Rattle.index_rule.specs.Hands.{opening_of};
@@ -21,14 +22,14 @@ use word_layout::Layout;
 
 impl Board {
     /// A board with its hands, by rising numbers: one for each caller, and behind them one for the
-    /// keeper of each part. The array of each part's first group has the part's rows, by rising key.
+    /// keeper of each part. The plan shares out each part's rows among the part's first groups, by rising key.
     pub fn open(
         alloc: Global,
         layout: &Layout,
         rows: &[(u64, u64)],
     ) -> Result<(Board, Vec<Hand>), AllocError>
         requires rising { IsRising rows.now }
-        requires few { length rows.now ≤ (limits_of layout.now).group_size }
+        requires fits { FitsTable (shape_of layout.now) rows.now }
         ensures rows { IfOk result (λ opened. (opening_of opened.0).rows ≡ rows.now) }
         ensures layout { IfOk result (λ opened. (opening_of opened.0).layout ≡ layout.now) }
         ensures hands { IfOk result (λ opened. HasNewHands opened.0 opened.1.items) }

@@ -16,4 +16,4 @@ count-requires c =
     let least = o.layout.kept.least_groups in
     let built = built_known b h k (LoadRoot 0 c.load_root.result) c.requires.hand loads in
     keepers_follow b k 0 loads.of (keeps_zero b k (loads.number ∙ c.requires.number)) (omega arith)
-    (inl (inl (0, of_group_zero b 0 (known k) c.requires.one_part built (omega arith))))
+    (inl (inl (0, of_group_zero b 0 (known k) c.requires.one_group built (omega arith))))

@@ -11,7 +11,7 @@ lane_for-lane-requires-clause-can g c =
 pub lane_for-lane-requires-clause-key : goal.lane_for-lane-requires-clause-key
 lane_for-lane-requires-clause-key g c =
     belongs_in_zero c.args.board.now c.args.hand.now c.args.key c.requires.in_group.search.call.of
-    c.requires.in_group.one_part (omega arith)
+    c.requires.in_group.one_group (omega arith)
 
 pub find-requires-clause-search : goal.find-requires-clause-search
 find-requires-clause-search g c = c.lane_for-lane.ensures.search c.requires.in_group.search

@@ -11,7 +11,7 @@ pub loop-lane-init : goal.loop-lane-init
 loop-lane-init g c =
     record {
       in_group = record {
-        one_part = c.requires.one_part;
+        one_group = c.requires.one_group;
         numbered = c.lanes-many.ensures.number ∙ c.requires.numbered;
         search = c.lanes-many.ensures.search c.requires.search;
       };
@@ -37,7 +37,7 @@ loop-lane-preserved g c =
     let step = c.load_header-cut.ensures.step in
     record {
       in_group = record {
-        one_part = was.in_group.one_part;
+        one_group = was.in_group.one_group;
         numbered = step.number ∙ was.in_group.numbered;
         search = search_on b 0 h k load refl step was.in_group.search;
       };

@@ -1,5 +1,6 @@
 use Rattle.std.proofs.Common.{inl}
-use Rattle.point_calls.proofs.Locating.{comes_to, reading_rooted, sees_slot}
+use Rattle.point_calls.proofs.Knowing.{call_on}
+use Rattle.point_calls.proofs.Locating.{reading_rooted, sees_slot}
 use Rattle.index_tests.proofs.parts.group_for.Goals as goal
 
 pub load_slot_group-requires-clause-may : goal.load_slot_group-requires-clause-may
@@ -13,6 +14,6 @@ load_slot_group-requires-clause-may c =
 
 pub returns : goal.returns
 returns c =
-    (comes_to c.args.board.now c.args.hand.now c.load_root.new.hand _ _ c.requires
-    c.part_of-part.ensures.is_part c.load_root.ensures c.load_slot_group.new.hand _
-    c.load_slot_group.ensures).search.call
+    call_on c.args.board.now c.load_root.new.hand c.load_slot_group.new.hand _ tt (λ z. z)
+    c.load_slot_group.ensures
+    (call_on c.args.board.now c.args.hand.now c.load_root.new.hand _ tt (λ z. z) c.load_root.ensures c.requires)

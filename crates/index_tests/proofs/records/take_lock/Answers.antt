@@ -5,6 +5,9 @@ use Rattle.index_machine.specs.Forms.{is_removed}
 use Rattle.index_rule.proofs.RecordStepping.{locked_after_lock, still_at}
 use Rattle.index_tests.proofs.records.take_lock.Goals as goal
 
+pub swap_lock-requires-clause-lockable : goal.swap_lock-requires-clause-lockable
+swap_lock-requires-clause-lockable g c = (0, false, record { is = refl; raisable = omega arith })
+
 pub returns-clause-may : goal.returns-clause-may
 returns-clause-may g c =
     let b = c.args.board.now in

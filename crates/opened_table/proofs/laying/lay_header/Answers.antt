@@ -32,9 +32,13 @@ returns c =
     let at_error : c.header-3.result ≡ address_of s (Header group header.LineError) =
     c.header-3.ensures.named ∙ ap at c.number-3.ensures
     in
-    let at_lanes : c.header-4.result ≡ address_of s (Header group header.Lanes) =
+    let at_next : c.header-4.result ≡ address_of s (Header group header.Next) =
     c.header-4.ensures.named ∙ ap at c.number-4.ensures
     in
+    let at_lanes : c.header-5.result ≡ address_of s (Header group header.Lanes) =
+    c.header-5.ensures.named ∙ ap at c.number-5.ensures
+    in
+    let next : ℕ = c.args.next in
     let error : c.error.result ≡ error_of keys =
     c.error.ensures ∙ ap (λ (z : Parts). z.error) c.of-line.ensures.line
     in
@@ -42,12 +46,13 @@ returns c =
     c.from.ensures
     ∙ (c.lanes_for-lanes.ensures.count ∙ ap lane_count (sym (length_of_keys rows)))
     in
-    let told : (ℕ × ℕ × ℕ × ℕ × ℕ × ℕ × ℕ) → List ℕ =
-    λ z. slice_set (slice_set (slice_set (slice_set old z.0 pivot) z.1 z.2) z.3 z.4) z.5 z.6
+    let told : (ℕ × ℕ × ℕ × ℕ × ℕ × ℕ × ℕ × ℕ) → List ℕ =
+    λ z.
+    slice_set (slice_set (slice_set (slice_set (slice_set old z.0 pivot) z.1 z.2) z.3 z.4) z.5 next) z.6 z.7
     in
-    header_laid s group pivot keys old new c.requires.is_group c.requires.wide
+    header_laid s group pivot next keys old new c.requires.is_group c.requires.wide
     (subst
-    (λ (z : ℕ × ℕ × ℕ × ℕ × ℕ × ℕ × ℕ).
+    (λ (z : ℕ × ℕ × ℕ × ℕ × ℕ × ℕ × ℕ × ℕ).
     LaysCuts s group pivot keys (lane_count (length keys)) (told z) new)
     (λ j. (
       at_pivot j,
@@ -55,6 +60,7 @@ returns c =
       sym (length_of_keys rows) j,
       at_error j,
       error j,
+      at_next j,
       at_lanes j,
       lanes j,
     ))

@@ -30,8 +30,8 @@ returns c =
     let comes : ComesTo b h key lane k =
     subst (λ (z : Lane). ComesTo b h key z k)
     (λ j. record { group = sym e.group j; number = lane.number })
-    (comes_lane b h c.reach-group.new.hand k part c.reach-group.result lane.number key c.requires.of
+    (comes_lane b h c.reach-group.new.hand k part c.reach-group.result lane.number key c.requires.call.of
     c.part_of-part.ensures c.reach-group.ensures.comes e.steps e.number
     (e.search c.reach-group.ensures.comes.search) e.lane e.log)
     in
-    record { comes = comes; rows = (in_comes b h k key lane c.requires.of comes).rows }
+    record { comes = comes; rows = (in_comes b h k key lane c.requires.call.of comes).rows }

@@ -1,4 +1,6 @@
 use Rattle.std.proofs.Common.{inl, arith}
+use Rattle.index_rule.specs.Hands.{opening_of}
+use Rattle.index_rule.proofs.OneGroups.{empty_one_group_each}
 use Rattle.point_calls.proofs.Locating.{comes_to, group_below, in_located, reading_rooted, sees_slot}
 use Rattle.point_calls.proofs.lookup.reach.Goals as goal
 
@@ -26,6 +28,7 @@ returns-clause-comes c =
     comes_to c.args.board.now c.args.hand.now c.load_root.new.hand c.args.part c.load_root.result
     c.requires.call c.requires.part c.load_root.ensures c.load_slot_group.new.hand
     c.load_slot_group.result c.load_slot_group.ensures
+    (empty_one_group_each (opening_of c.args.board.now) c.requires.empty)
 
 pub returns-clause-rows : goal.returns-clause-rows
 returns-clause-rows c =
