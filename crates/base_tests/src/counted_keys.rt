@@ -1,6 +1,7 @@
 //! A list that counts its reads, and a search in it.
 ghost use Rattle.std.specs.Prelude.{◌≡◌, ℕ, ◌+◌, ◌≤◌};
 ghost use Rattle.std.specs.List.Sorted.{IsStrictlyIncreasing};
+ghost use Rattle.std.proofs.Math.Nat.{le_refl, le_trans};
 ghost use Rattle.line_window.specs.Line.{line_of};
 ghost use Rattle.line_window.specs.Search.{probes_of};
 
@@ -22,6 +23,12 @@ impl Keys for Counted<'_> {
     ghost origin = { λ c. c.seed };
 
     ghost reads = { λ c. c.reads };
+
+    ghost leads_to = { λ c d. c.reads ≤ d.reads };
+
+    ghost leads_to_itself = { λ c. le_refl c.reads };
+
+    ghost leads_on = { λ _ _ _ first second. le_trans first second };
 
     fn len(&self) -> usize {
         self.keys.len()

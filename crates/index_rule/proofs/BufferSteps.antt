@@ -55,7 +55,7 @@ use Rattle.map_model.specs.Map.{look}
 use Rattle.index_rule.specs.declared.board.Board.{Board}
 use Rattle.index_rule.specs.declared.hand.Hand.{Hand}
 use Rattle.index_rule.specs.declared.view.View.{View}
-use Rattle.index_rule.specs.Buffers.{CanSeePhase, CanWalk, IsBehindKey, IsLaneHeader, IsRowOf}
+use Rattle.index_rule.specs.Buffers.{CanSeePhase, CanWalk, IsBehindKey, IsLaneHeader, IsLoadable, IsRowOf}
 use Rattle.index_rule.specs.Buffers.{MayInsertRow, TellsBegun, inserted_by, key_in}
 use Rattle.index_rule.specs.Hands.{IsHandOf, Makes, known, opening_of}
 use Rattle.index_rule.specs.Offsets.{offset_of_word}
@@ -344,14 +344,14 @@ lane_by_hand b h g lane of is_lane =
     (λ follows.
     let few = (cuts_rise (opening_of b) (known h) follows.valid g).few in omega arith)
 
--- the header word that says a lane is one of a header's
+-- a word that can be loaded is one of a header's
 pub header_by_hand : (b : Board) (h : Hand) (g : ℕ) (which : HeaderWord) → IsHandOf b h →
-    IsLaneHeader (opening_of b) g which (known h) → IsHeaderWord which
+    IsLoadable (opening_of b) g which (known h) → IsHeaderWord which
 header_by_hand b h g header.Lanes of is = tt
 header_by_hand b h g (header.Cut lane) of is = lane_by_hand b h g lane of is
-header_by_hand b h g header.Pivot of is = absurd is
-header_by_hand b h g header.Size of is = absurd is
-header_by_hand b h g header.LineError of is = absurd is
+header_by_hand b h g header.Pivot of is = tt
+header_by_hand b h g header.Size of is = tt
+header_by_hand b h g header.LineError of is = tt
 header_by_hand b h g header.Phase of is = absurd is
 header_by_hand b h g header.Next of is = absurd is
 header_by_hand b h g header.FirstSpare of is = absurd is

@@ -21,6 +21,7 @@ pub mod RecordSteps
 pub mod RootSteps
 pub mod Lanes
 pub mod BufferSteps
+pub mod ChainSteps
 pub mod Calls
 pub mod RecordStepping
 pub mod RecordReading
@@ -29,3 +30,5 @@ pub mod BufferStepping
 pub mod Elsewhere
 pub mod HeldRows
 pub mod Heeding
+pub mod ChainStepping
+pub mod ArrayStepping

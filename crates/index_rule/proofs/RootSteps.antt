@@ -7,10 +7,10 @@ use Rattle.std.specs.Prelude.{◌==◌}
 use Rattle.std.proofs.Math.Logic.{∥∥₁_elim}
 use Rattle.std.proofs.Props.{props}
 use Rattle.atomic_table.specs.Table.{Me, Allows}
-use Rattle.word_layout.specs.Words.{IsWord, Root, SlotGroup}
+use Rattle.word_layout.specs.Words.{IsWord, Root, SlotGroup, SlotPivot}
 use Rattle.index_machine.specs.declared.events.Action.{Action}
 use Rattle.index_machine.specs.declared.events.Action.TheVariants.{Enter, Leave, LoadRoot}
-use Rattle.index_machine.specs.declared.events.Action.TheVariants.{LoadSlotGroup, StoreRoot}
+use Rattle.index_machine.specs.declared.events.Action.TheVariants.{LoadSlotGroup, LoadSlotPivot, StoreRoot}
 use Rattle.index_machine.specs.declared.opening.Opening.{Opening}
 use Rattle.index_machine.specs.Execution.{Execution, Without, event}
 use Rattle.index_machine.specs.Words.{shape, limits}
@@ -31,7 +31,7 @@ use Rattle.index_rule.specs.Hands.{IsHandOf, known, opening_of}
 use Rattle.index_rule.specs.Records.{CanReadSlot, KeepsSlot}
 use Rattle.index_rule.specs.Offsets.{offset_of_word}
 use Rattle.index_rule.specs.Rule.{Kept, Does, word_in}
-use Rattle.index_rule.specs.Steps.{root_load, slot_group_load}
+use Rattle.index_rule.specs.Steps.{root_load, slot_group_load, slot_pivot_load}
 use Rattle.index_rule.proofs.StepKinds.{by_name, loads}
 use Rattle.index_rule.proofs.Standing.{reading_on, stays_inside}
 
@@ -185,4 +185,19 @@ module _ (o : Opening) (slots id : ℕ) (me : Me (Unit {0}) View) (c : ℕ)
             (sees_on o c part side i newer me.0.known out can);
         found_word = refl;
         says = sym ((represented o t valid).slots part side i);
+      }))
+
+  pub loads_slot_pivot : (part side i a : ℕ) → CanReadSlot o c part side i me.0.known →
+      IsWord (shape o) (SlotPivot part side i) →
+      a ≡ offset_of_word (shape o) (SlotPivot part side i) →
+      Allows (Kept o) slots id me a (λ n. n)
+      (λ n x. Does me (slot_pivot_load (word_in me.0 a) n) x)
+  loads_slot_pivot part side i a can is_word at =
+      by_name o slots id me c is live (SlotPivot part side i) a (λ n. n) slot_pivot_load is_word at
+      (loads o slots id me c is live (SlotPivot part side i) (λ n. LoadSlotPivot part side i n)
+      is_word (λ _. tt) (λ _. refl)
+      (λ t valid newer e out. record {
+        allowed = subst (MayReadSlot o c part side i) e
+            (sees_on o c part side i newer me.0.known out can);
+        found_word = refl;
       }))

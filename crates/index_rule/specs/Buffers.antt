@@ -52,6 +52,14 @@ IsLaneHeader o group header.Lanes t = Unit {0}
 IsLaneHeader o group (header.Cut lane) t = lane < lanes o group t
 IsLaneHeader o group _ t = ⊥
 
+-- the header word can be loaded wherever the hand can walk: the group's pivot, its size, the error of its line,
+-- or one that says which lanes its buffer has
+abbrev pub IsLoadable : Opening → ℕ → HeaderWord → Execution → Type 0
+IsLoadable o group header.Pivot t = Unit {0}
+IsLoadable o group header.Size t = Unit {0}
+IsLoadable o group header.LineError t = Unit {0}
+IsLoadable o group which t = IsLaneHeader o group which t
+
 -- the word says what the group was begun with, and still does when the hand knows more
 abbrev pub TellsBegun : Opening → ℕ → HeaderWord → ℕ → Execution → Execution → Type 0
 TellsBegun o group which found t later =

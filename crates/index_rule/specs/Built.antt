@@ -2,20 +2,19 @@
 -- none of these was made: nothing is rebuilt.
 use Rattle.std.specs.Prelude.{[], ◌∷◌}
 use Rattle.index_machine.specs.declared.events.Action.{Action}
-use Rattle.index_machine.specs.declared.events.Action.TheVariants.{Retire, LoadNext}
+use Rattle.index_machine.specs.declared.events.Action.TheVariants.{Retire}
 use Rattle.index_machine.specs.declared.events.Action.TheVariants.{Freeze, Thaw, StoreHeader}
 use Rattle.index_machine.specs.declared.events.Action.TheVariants.{NewGroup, StoreArray}
 use Rattle.index_machine.specs.declared.events.Action.TheVariants.{StoreRedirect, StoreOpened}
 use Rattle.index_machine.specs.declared.events.Action.TheVariants.{Install, StoreSlot, Close, Copy}
 use Rattle.index_machine.specs.declared.events.Action.TheVariants.{StoreDirect, StoreMoved}
-use Rattle.index_machine.specs.declared.events.Action.TheVariants.{LoadSlotPivot, StoreUnusedPivot}
+use Rattle.index_machine.specs.declared.events.Action.TheVariants.{StoreUnusedPivot}
 use Rattle.index_machine.specs.declared.events.Action.TheVariants.{StoreUnusedGroup, StoreRoot}
 use Rattle.index_machine.specs.Execution.{Execution}
 
 -- the board has a call for this kind of step: it is none of those that wait for one
 abbrev pub IsBuilt : Action → Type 0
 IsBuilt (Retire place next) = ⊥
-IsBuilt (LoadNext group found) = ⊥
 IsBuilt (Freeze group) = ⊥
 IsBuilt (Thaw group) = ⊥
 IsBuilt (StoreHeader group part value) = ⊥
@@ -29,7 +28,6 @@ IsBuilt (Close place expected) = ⊥
 IsBuilt (Copy place value) = ⊥
 IsBuilt (StoreDirect place from key removed stored) = ⊥
 IsBuilt (StoreMoved place) = ⊥
-IsBuilt (LoadSlotPivot part side i found) = ⊥
 IsBuilt (StoreUnusedPivot part side i pivot) = ⊥
 IsBuilt (StoreUnusedGroup part side i group) = ⊥
 IsBuilt (StoreRoot part stored) = ⊥

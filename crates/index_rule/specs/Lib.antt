@@ -17,3 +17,4 @@ pub mod LockWords
 pub mod Records
 pub mod Buffers
 pub mod Elsewhere
+pub mod Chains

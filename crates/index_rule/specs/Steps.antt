@@ -2,13 +2,14 @@
 -- one form that is named.
 use Rattle.std.specs.Prelude.{ℕ, zero, suc, ◌-◌, ◌%◌, ◌==◌, nat_lt, cond, Bool, Option, Some, None}
 use Rattle.word_layout.specs.declared.headers.HeaderWord.TheVariants as header
-use Rattle.word_layout.specs.Words.{Word, Root, Epoch, SlotGroup, Header, PlaceWord}
+use Rattle.word_layout.specs.Words.{Word, Root, Epoch, SlotGroup, SlotPivot, Header, PlaceWord}
 use Rattle.index_machine.specs.declared.events.Action.{Action}
 use Rattle.index_machine.specs.declared.events.Action.TheVariants.{LoadEpoch, LoadFree}
 use Rattle.index_machine.specs.declared.events.Action.TheVariants.{LoadFreeLink, StorePrivate}
 use Rattle.index_machine.specs.declared.events.Action.TheVariants.{LoadState, LoadValue, Lock}
 use Rattle.index_machine.specs.declared.events.Action.TheVariants.{FailLock, StoreValue, Unlock}
-use Rattle.index_machine.specs.declared.events.Action.TheVariants.{LoadRoot, LoadSlotGroup, LoadKey}
+use Rattle.index_machine.specs.declared.events.Action.TheVariants.{LoadKey, LoadNext, LoadRoot}
+use Rattle.index_machine.specs.declared.events.Action.TheVariants.{LoadSlotGroup, LoadSlotPivot}
 use Rattle.index_machine.specs.declared.events.Action.TheVariants.{LoadHead, LoadHeader, LoadLink, LoadPhase}
 use Rattle.index_machine.specs.declared.events.Action.TheVariants.{LinkRow, FailLink}
 use Rattle.index_machine.specs.declared.opening.Opening.{Opening}
@@ -39,6 +40,11 @@ private_store _ n = LoadFree n
 abbrev pub root_load : Word → ℕ → Action
 root_load (Root part) n = LoadRoot part n
 root_load _ n = LoadFree n
+
+-- the pivot of a slot was loaded
+abbrev pub slot_pivot_load : Word → ℕ → Action
+slot_pivot_load (SlotPivot part side i) n = LoadSlotPivot part side i n
+slot_pivot_load _ n = LoadFree n
 
 -- the group word of a slot was loaded
 abbrev pub slot_group_load : Word → ℕ → Action
@@ -103,6 +109,11 @@ head_load _ n = LoadFree n
 abbrev pub header_load : Word → ℕ → Action
 header_load (Header group which) n = LoadHeader group which n
 header_load _ n = LoadFree n
+
+-- a next word was loaded
+abbrev pub next_load : Word → ℕ → Action
+next_load (Header group which) n = LoadNext group n
+next_load _ n = LoadFree n
 
 -- a phase word was loaded
 abbrev pub phase_load : Word → ℕ → Action

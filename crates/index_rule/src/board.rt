@@ -6,7 +6,9 @@ ghost use Rattle.index_rule.specs.Offsets.{offset_count, shift_of};
 use crate::rule::Words;
 use word_layout::Layout;
 
+mod arrays;
 mod buffers;
+mod chain;
 mod closing;
 mod epochs;
 mod free_stack;

@@ -9,7 +9,7 @@ ghost use Rattle.index_rule.specs.Steps.{epoch_load, link_load, private_store};
 ghost use Rattle.index_rule.specs.Steps.{root_load, slot_group_load, state_load, value_load};
 ghost use Rattle.index_rule.specs.Steps.{lock_made, lock_failed, value_store, unlock_store};
 ghost use Rattle.index_rule.specs.Steps.{key_load, head_load, header_load, phase_load, row_link_load};
-ghost use Rattle.index_rule.specs.Steps.{link_made, link_failed};
+ghost use Rattle.index_rule.specs.Steps.{link_made, link_failed, next_load, slot_pivot_load};
 
 use crate::looks::Sight;
 use crate::view::View;
@@ -133,6 +133,18 @@ pub struct LoadsHeader;
 
 impl Play<(), View> for LoadsHeader {
     ghost then = { λ st me n w. Does me (header_load (word_in me.0 st.word) n) w };
+}
+
+pub struct LoadsNext;
+
+impl Play<(), View> for LoadsNext {
+    ghost then = { λ st me n w. Does me (next_load (word_in me.0 st.word) n) w };
+}
+
+pub struct LoadsSlotPivot;
+
+impl Play<(), View> for LoadsSlotPivot {
+    ghost then = { λ st me n w. Does me (slot_pivot_load (word_in me.0 st.word) n) w };
 }
 
 pub struct LoadsPhase;

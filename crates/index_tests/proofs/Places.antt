@@ -7,6 +7,7 @@ use Rattle.map_model.specs.Map.{Map}
 use Rattle.word_layout.specs.Addresses.{array_address}
 use Rattle.word_layout.specs.Shape.{Shape}
 use Rattle.index_machine.specs.declared.events.Action.TheVariants.{LoadRoot, LoadSlotGroup}
+use Rattle.index_machine.specs.KeyRanges.{group_of}
 use Rattle.index_machine.specs.OpeningPlan.{keys_for}
 use Rattle.index_machine.specs.OpeningRows.{index_behind, opening_group, row_from}
 use Rattle.index_machine.specs.Words.{limits, shape}
@@ -18,7 +19,7 @@ use Rattle.index_machine.proofs.OpeningRows.{opening_row-key}
 use Rattle.index_rule.specs.declared.board.Board.{Board}
 use Rattle.index_rule.specs.declared.hand.Hand.{Hand}
 use Rattle.index_rule.specs.Hands.{Makes, known, opening_of}
-use Rattle.index_rule.proofs.BuiltLaws.{arrays_as_opened}
+use Rattle.index_rule.proofs.BuiltLaws.{arrays_as_opened, groups_as_opened}
 use Rattle.index_rule.proofs.RootStepping.{at_in_array}
 use Rattle.index_rule.proofs.Stepping.{built_known, valid_known}
 use Rattle.record_cell.specs.Finding.{IsReadyAt}
@@ -108,9 +109,10 @@ ready_at_row b h r k number root group inside loads names place row =
     let search = (in_group_slot b h r number root inside loads k group names).search in
     let small = opening_row-key o place row.0.0 row.0.1 row.1 in
     let zero = opening_group-zero b row.0.0 inside.one_group (omega arith) in
+    let built = built_known b r k load loads.of names in
+    let own : group_of o row.0.0 (known k) ≡ 0 = ((groups_as_opened o (known k) built).0 row.0.0).0 ∙ zero in
     let placed : role o place (known k) ≡ InArray 0 row.0.0 =
-    (arrays_as_opened o (known k) (valid_known b r k load loads.of names)
-    (built_known b r k load loads.of names) 0 row.0.0 place).0
+    (arrays_as_opened o (known k) (valid_known b r k load loads.of names) built 0 row.0.0 place).0
     (ap (role_of_row o) row.1 ∙ ap (λ (group : ℕ). InArray group row.0.0) zero)
     in
     record {
@@ -121,6 +123,7 @@ ready_at_row b h r k number root group inside loads names place row =
         key = row.0.0;
         stands = search.stands;
         in_group = inl placed;
+        of_key = inl (inl own);
       };
       holds_none = search.call.holds_none;
     }

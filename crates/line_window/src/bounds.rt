@@ -27,6 +27,7 @@ pub fn lower_bound<K: Keys>(line: &Line, keys: &mut K, key: u64, probes: &mut Pr
     // Reading changes neither the keys nor what their reader was made with.
     ensures list { K.list keys.new ≡ K.list keys.old }
     ensures origin { K.origin keys.new ≡ K.origin keys.old }
+    ensures leads { K.leads_to keys.old keys.new }
 {
     let (mut low, mut high) = line.window(key);
     let mut comparisons = 0u64;

@@ -2,7 +2,8 @@
 //!
 //! A read never changes the list: it may only cost, and the number of reads says how much.
 
-ghost use Rattle.std.specs.Prelude.{◌≡◌, ℕ, ◌+◌, ◌<◌, ◌≤◌, ◌↔◌, List, length, slice_index, IsTrue};
+ghost use Rattle.std.specs.Prelude.{◌≡◌, ℕ, ◌+◌, ◌<◌, ◌≤◌, ◌↔◌, List, length, slice_index, IsTrue, refl};
+ghost use Rattle.std.proofs.Common.{◌∙◌};
 ghost use Rattle.std.specs.List.Sorted.{IsStrictlyIncreasing};
 
 /// A list of keys that is read one key at a time.
@@ -18,6 +19,9 @@ pub trait Keys {
     // How many reads were made since.
     ghost reads: { Self → ℕ };
 
+    // Reads alone lead from the first to the second.
+    ghost leads_to: { Self → Self → Type 0 };
+
     fn len(&self) -> usize
         ensures { result ≡ length (list self.now) };
 
@@ -27,7 +31,13 @@ pub trait Keys {
         ensures list { list self.new ≡ list self.old }
         ensures origin { origin self.new ≡ origin self.old }
         ensures reads_kept { reads self.old ≤ reads self.new }
-        ensures reads_raised { reads self.new ≤ reads self.old + 1 };
+        ensures reads_raised { reads self.new ≤ reads self.old + 1 }
+        ensures leads { leads_to self.old self.new };
+
+    // No read is needed to stay, and reads behind reads are reads.
+    ghost leads_to_itself: { (s : Self) → leads_to s s };
+
+    ghost leads_on: { (s t u : Self) → leads_to s t → leads_to t u → leads_to s u };
 }
 
 impl Keys for &[u64] {
@@ -36,6 +46,12 @@ impl Keys for &[u64] {
     ghost origin = { λ _. tt };
 
     ghost reads = { λ _. 0 };
+
+    ghost leads_to = { λ s t. t.now ≡ s.now };
+
+    ghost leads_to_itself = { λ _. refl };
+
+    ghost leads_on = { λ _ _ _ first second. second ∙ first };
 
     #[inline]
     fn len(&self) -> usize {

@@ -50,6 +50,7 @@ impl Line {
         ensures origin { K.origin keys.new ≡ K.origin keys.old }
         ensures reads_kept { K.reads keys.old ≤ K.reads keys.new }
         ensures reads_raised { K.reads keys.new ≤ K.reads keys.old + length (K.list keys.old) + 2 }
+        ensures leads { K.leads_to keys.old keys.new }
     {
         let len = keys.len();
         if len == 0 {

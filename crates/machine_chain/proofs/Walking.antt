@@ -64,7 +64,7 @@ next_words o t valid c g found walks e = record {
 }
 
 -- where a caller stands the phase word is true
-not_stale : (o : Opening) (t : Execution) → Valid o t → (c g : ℕ) → IsCaller o c →
+pub not_stale : (o : Opening) (t : Execution) → Valid o t → (c g : ℕ) → IsCaller o c →
     stands_in c g t ≡ true → has_stale_phase g t ≡ false
 not_stale o t valid c g is s = ⊎_elim
     (λ (z : (k : ℕ) × AnswersFor o k g t). ⊎_elim

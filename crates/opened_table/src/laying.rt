@@ -2,7 +2,8 @@
 //!
 //! The fact to remember: the rows rise, so those of a part stand behind those of all parts before it, and those of
 //! a group behind those of the groups before it.
-ghost use Rattle.std.specs.Prelude.{◌≡◌, ◌*◌, ◌<◌, ◌≤◌, true, [], IfOk, length, take, drop, slice_index};
+ghost use Rattle.std.specs.Prelude.{◌≡◌, ◌*◌, ◌<◌, ◌≤◌, true, [], IfOk, length, take, drop, slice_index, refl};
+ghost use Rattle.std.proofs.Common.{◌∙◌};
 ghost use Rattle.std.specs.List.Sorted.{IsPartitionPoint};
 ghost use Rattle.word_layout.specs.Limits.{word_count};
 ghost use Rattle.word_layout.specs.Layout.{limits_of, shape_of};
@@ -254,6 +255,12 @@ impl<'a> Keys for RowKeys<'a> {
     ghost origin = { λ _. tt };
 
     ghost reads = { λ _. 0 };
+
+    ghost leads_to = { λ s t. t.rows.now ≡ s.rows.now };
+
+    ghost leads_to_itself = { λ _. refl };
+
+    ghost leads_on = { λ _ _ _ first second. second ∙ first };
 
     fn len(&self) -> usize {
         self.rows.len()

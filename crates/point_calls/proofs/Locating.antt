@@ -1,9 +1,6 @@
 -- How a caller comes to the part of a key, and by the slot of the part's root to the key's group.
-use Rattle.std.proofs.Common.{List, ◌≡◌, ℕ, ◌^◌, ◌<◌, ◌≤◌, refl, sym, ap, ◌∙◌, subst, arith}
+use Rattle.std.proofs.Common.{◌≡◌, ℕ, ◌^◌, ◌<◌, ◌≤◌, refl, sym, ap, ◌∙◌, subst, arith}
 use Rattle.std.proofs.Math.Nat.{mul-le-mul_right}
-use Rattle.word_layout.specs.declared.layout.Layout.{Layout}
-use Rattle.word_layout.specs.Layout.{bounds_of}
-use Rattle.word_layout.specs.Parts.{HasKeyAlone}
 use Rattle.word_layout.specs.Shape.{first_group_of}
 use Rattle.word_layout.proofs.PartGroups.{first_group-exists, part_with-key}
 use Rattle.index_machine.specs.declared.events.Action.TheVariants.{LoadRoot, LoadSlotGroup}

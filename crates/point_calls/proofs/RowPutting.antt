@@ -38,7 +38,7 @@ use Rattle.record_cell.specs.Conditions.{IsLiveState, IsTombstoneState}
 use Rattle.record_cell.specs.Finding.{Finds}
 use Rattle.record_cell.specs.Reviving.{BringsToLife, MayRevive}
 use Rattle.record_cell.specs.Writes.{put_at}
-use Rattle.record_cell.proofs.Found.{found_in_place}
+use Rattle.record_cell.proofs.FoundLoads.{found_in_row}
 use Rattle.point_calls.specs.declared.found.FoundRow.{FoundRow}
 use Rattle.point_calls.specs.declared.found.Gap.{Gap}
 use Rattle.point_calls.specs.PointCalls.{MeetsChange, OpensEmpty}
@@ -46,7 +46,7 @@ use Rattle.point_calls.specs.Putting.{HasFoundGap, HasFoundRow, HasFoundTombston
 use Rattle.point_calls.proofs.Knowing.{IsIn, call_is, in_all, in_call, in_step, within_whole}
 use Rattle.point_calls.proofs.LeftWords.{left_on, made_at, made_behind, walked_at}
 use Rattle.point_calls.proofs.Missing.{group_opened, group_stays, no_array}
-use Rattle.point_calls.proofs.RowReading.{ready_row}
+use Rattle.point_calls.proofs.RowReading.{at_row}
 
 -- what it knows in the group of the key it knows within its call
 pub is_in : (b : Board) (start h : Hand) (g key : ℕ) → IsInGroupOf b start h g key → IsIn b start h
@@ -74,7 +74,7 @@ module _ (b : Board) (start h k : Hand) (g key : ℕ) (d : Action) (none : IsNoC
       IsReachedRow (opening_of b) k.number g key place (known k)
   row_on place row = (
     same_role b h k d at.search.call.of m none place
-        (ready_row b g key place h at.search row).at_own.there
+        (at_row b g key place h at.search row)
         ∙ row.0,
     still_reached b h k d at.search.call.of m none place row.1,
   )
@@ -87,8 +87,8 @@ found_stone b start h k r at word found finds stone entry =
     let g : ℕ = r.group in
     let key : ℕ = r.key in
     let place : ℕ = r.place in
-    let here = found_in_place b h k place at word (ready_row b g key place h found.group_of.search found.row)
-    finds in
+    let here = found_in_row b h k g key place at word found.group_of.search.call.of
+    (at_row b g key place h found.group_of.search found.row) found.row.0 finds in
     record {
       found = record {
         group_of = group_on b start h k g key (LoadState place word) tt (λ z. z) tt here.1

@@ -1,5 +1,5 @@
 -- What a read of a row tells of its key, within a call.
-use Rattle.std.proofs.Common.{◌≡◌, ◌≢◌, ℕ, inr, Some, sym, ap, ◌∙◌, subst}
+use Rattle.std.proofs.Common.{◌≡◌, ◌≢◌, ℕ, inl, inr, Some, sym, ap, ◌∙◌, subst}
 use Rattle.word_layout.specs.declared.places.Part.TheVariants.{State}
 use Rattle.word_layout.specs.Words.{PlaceWord}
 use Rattle.index_machine.specs.declared.events.Action.TheVariants.{LoadState, LoadValue}
@@ -7,6 +7,7 @@ use Rattle.index_machine.specs.Execution.{Continues}
 use Rattle.index_machine.specs.KeyRanges.{group_of}
 use Rattle.index_machine.specs.LivePlaces.{value_in_map}
 use Rattle.index_machine.specs.Places.{form}
+use Rattle.index_machine.specs.RecordConditions.{IsAt}
 use Rattle.index_machine.specs.Rows.{InBuffer, role, role_key}
 use Rattle.index_machine.proofs.Options.{some_is}
 use Rattle.index_rule.specs.declared.board.Board.{Board}
@@ -25,25 +26,33 @@ use Rattle.record_cell.specs.Conditions.{IsLockedState}
 use Rattle.index_machine.specs.Sections.{IsCaller}
 use Rattle.record_cell.specs.Finding.{Finds, HasSameKey, IsReadyAt}
 use Rattle.record_cell.specs.Reads.{FindsLock, FindsNone, FindsValue, IsHeldByAnother}
-use Rattle.record_cell.proofs.Found.{found_in_place}
+use Rattle.record_cell.proofs.FoundLoads.{found_in_row}
 use Rattle.point_calls.specs.Lookup.{HasMissed}
 use Rattle.point_calls.specs.PointCalls.{IsOfKey, MeetsChange, MeetsLock, OpensEmpty}
 use Rattle.point_calls.proofs.Knowing.{IsIn, built_at, call_is, in_step, valid_at, within_whole}
 use Rattle.point_calls.proofs.LeftWords.{left_on, made_at, made_behind}
 use Rattle.point_calls.proofs.Missing.{group_stays, missed, stone_absent}
 
--- the caller can act on the row that it found
+-- the caller is at the row that it found
+pub at_row : (b : Board) (g key place : ℕ) (h : Hand) → CanSearch b g h →
+    IsReachedRow (opening_of b) h.number g key place (known h) →
+    IsAt (opening_of b) h.number place (known h)
+at_row b g key place h can row = record { reading = can.call.reading; there = inr row.1 }
+
+-- in the group of its key the caller can act on it
 pub ready_row : (b : Board) (g key place : ℕ) (h : Hand) → CanSearch b g h →
+    group_of (opening_of b) key (known h) ≡ g →
     IsReachedRow (opening_of b) h.number g key place (known h) → IsReadyAt b h place
-ready_row b g key place h can row =
+ready_row b g key place h can own row =
     record {
       of = can.call.of;
       at_own = record {
-        there = record { reading = can.call.reading; there = inr row.1 };
+        there = at_row b g key place h can row;
         group = g;
         key = key;
         stands = can.stands;
         in_group = inr row.0;
+        of_key = inl (inl own);
       };
       holds_none = can.call.holds_none;
     }
@@ -58,14 +67,12 @@ of_row b h k g key place at row same =
 
 module _ (b : Board) (start h : Hand) (g key place : ℕ) (i : IsIn b start h) (can : CanSearch b g h)
     (row : IsReachedRow (opening_of b) h.number g key place (known h)) where
-  ready : IsReadyAt b h place
-  ready = ready_row b g key place h can row
-
   -- the state word that was found was loaded
   module _ (k : Hand) (at word : ℕ) (finds : Finds b h place at word k) where
     pub loaded_at : Makes b h (LoadState at word) k
     loaded_at =
-        let here = found_in_place b h k place at word ready finds in
+        let here =
+        found_in_row b h k g key place at word i.of (at_row b g key place h can row) row.0 finds in
         subst (λ (z : ℕ). Makes b h (LoadState z word) k) (sym here.0) here.1
 
     pub in_found : IsIn b start k

@@ -24,7 +24,8 @@ use Rattle.index_rule.proofs.RecordStepping.{still_at, still_locked, still_no_ot
 use Rattle.record_cell.specs.Finding.{HasSameKey, IsAtOwn, IsReadyAt}
 use Rattle.record_cell.specs.Locking.{HasLocked}
 use Rattle.record_cell.specs.Writes.{put_at, remove_at}
-use Rattle.record_cell.proofs.Found.{finding_begins, key_after, still_at_own}
+use Rattle.record_cell.proofs.Found.{key_after, still_at_own}
+use Rattle.record_cell.proofs.FoundLoads.{finding_begins}
 
 -- the hand holds the lock of the record of the place, which was removed or had the one value, and
 -- has the other now

@@ -1,33 +1,32 @@
--- What a caller knows of a record once it has loaded its state word.
-use Rattle.std.proofs.Common.{◌≡◌, ◌≢◌, inl, inr, ⊎_elim, ℕ, true, false}
-use Rattle.std.proofs.Common.{[], ◌∷◌, refl, sym, ap, ◌∙◌, subst, arith}
+-- Where a caller is, and what it knows of a record once it has loaded the state word at its place.
+use Rattle.std.proofs.Common.{◌≡◌, ◌⊎◌, inl, inr, ⊎_elim, ℕ, true, false}
+use Rattle.std.proofs.Common.{Some, [], refl, sym, ap, ◌∙◌, arith}
 use Rattle.word_layout.specs.State.{word_of_state}
 use Rattle.word_layout.specs.declared.state.State.TheVariants as state
 use Rattle.index_machine.specs.declared.events.Action.{Action}
 use Rattle.index_machine.specs.declared.events.Action.TheVariants.{LoadState}
+use Rattle.index_machine.specs.declared.opening.Opening.{Opening}
+use Rattle.index_machine.specs.Conditions.{Valid}
 use Rattle.index_machine.specs.Sections.{IsNoCrossing}
-use Rattle.index_machine.specs.Forms.{Form, Blank, Unlocked, Locked, Copied, Redirect, Moved}
-use Rattle.index_machine.specs.Forms.{state_word}
+use Rattle.index_machine.specs.Forms.{Form, IsLockedBy, IsUnlocked, state_word}
 use Rattle.index_machine.specs.Places.{form}
-use Rattle.index_machine.specs.Execution.{Continues}
+use Rattle.index_machine.specs.Execution.{Execution}
 use Rattle.index_machine.specs.Rows.{InArray, InBuffer, role, role_key}
 use Rattle.index_machine.specs.RecordConditions.{IsAt}
-use Rattle.index_machine.proofs.Executions.{continues_trans, valid_before}
 use Rattle.index_machine.proofs.Holders.{TakesLock}
-use Rattle.machine_readers.proofs.FormsMet.{not_blank}
+use Rattle.machine_buffers.specs.Groups.{IsKeyOf}
+use Rattle.machine_readers.specs.Targets.{HoldsRecords, IsDirect, IsRedirect}
+use Rattle.machine_readers.proofs.FormsMet.{callers_meet}
+use Rattle.machine_readers.proofs.NewRedirects.{in_group_keyed}
+use Rattle.machine_readers.proofs.StandingCallers.{of_key_on}
 use Rattle.index_rule.specs.declared.board.Board.{Board}
 use Rattle.index_rule.specs.declared.hand.Hand.{Hand}
-use Rattle.index_rule.specs.BuiltLaws.{IsInPlace}
-use Rattle.index_rule.specs.Hands.{IsHandOf, Makes, MakesAll, known, opening_of}
-use Rattle.index_rule.proofs.BuiltLaws.{in_place}
-use Rattle.index_rule.proofs.Calls.{HasBegun, begins, begun_on, goes_on}
-use Rattle.index_rule.proofs.RecordStepping.{same_role, still_at, still_stands}
-use Rattle.index_rule.proofs.Standing.{at_keyed}
-use Rattle.index_rule.proofs.Stepping.{built_known, known_is, still_holds_no_lock, valid_after}
-use Rattle.index_rule.proofs.Stepping.{valid_known}
-use Rattle.record_cell.specs.Finding.{CanStepAt, Finds, FollowsPointer, HasSameKey, IsAtOwn}
+use Rattle.index_rule.specs.Hands.{IsHandOf, Makes, known, opening_of}
+use Rattle.index_rule.proofs.RecordStepping.{goes_on_inside, now, same_role, since, still_at}
+use Rattle.index_rule.proofs.RecordStepping.{still_stands}
+use Rattle.index_rule.proofs.Stepping.{known_is, still_holds_no_lock, valid_after, valid_known}
 use Rattle.record_cell.specs.Conditions.{IsRecordWord}
-use Rattle.record_cell.specs.Finding.{IsFoundAt, IsReadyAt}
+use Rattle.record_cell.specs.Finding.{CanStepAt, HasSameKey, IsAtOwn, IsFoundAt, IsReadyAt}
 
 -- ---- where the caller is ----
 
@@ -53,6 +52,10 @@ module _ (b : Board) (h k : Hand) (action : Action) (place : ℕ) (none : IsNoCr
             inl (same ∙ z))
             (λ (z : role (opening_of b) place (known h) ≡ InBuffer own.group own.key).
             inr (same ∙ z)) own.in_group;
+        of_key = now b h k action of m (λ z t. IsKeyOf (opening_of b) own.group own.key t)
+            (of_key_on (opening_of b) h.number own.group own.key own.there.reading.caller
+            (since b h k action of m) (known h) (valid_after b h k action of m)
+            (goes_on_inside b h k action of m none) own.stands own.of_key);
       }
 
   pub ready_on : (TakesLock action → ⊥) → IsReadyAt b h place → IsReadyAt b k place
@@ -71,30 +74,20 @@ module _ (b : Board) (h k : Hand) (action : Action) (place : ℕ) (none : IsNoCr
         holds_none = still_holds_no_lock b h k action can.of m takes_none can.holds_none;
       }
 
--- the key of a place where the caller is, after such a step
-key_on : (b : Board) (h k : Hand) (action : Action) (place : ℕ) → IsNoCrossing action →
-    Makes b h action k → IsReadyAt b h place → HasSameKey b h place place k
-key_on b h k action place none m ready =
-    let o = opening_of b in
-    let keyed = at_keyed o h.number place (known h)
-    (valid_before o m.acts.0 (known h) (valid_after b h k action ready.of m).1) ready.at_own.there
-    in (
-      keyed.0,
-      keyed.1,
-      ap role_key (same_role b h k action ready.of m none place ready.at_own.there) ∙ keyed.1,
-    )
+-- the key of its place
+pub own_key : (b : Board) (h : Hand) (place : ℕ) → (ready : IsReadyAt b h place) →
+    role_key (role (opening_of b) place (known h)) ≡ Some ready.at_own.key
+own_key b h place ready =
+    in_group_keyed (opening_of b) (known h) ready.at_own.group ready.at_own.key place
+    ready.at_own.in_group
 
--- ---- the record ----
+-- ---- state words ----
 
--- the state word of what stands in its place is that of a record
-record_word : (f : Form) (word : ℕ) → IsInPlace f → f ≢ Blank → state_word f ≡ word →
-    IsRecordWord word
-record_word Blank word is filled e = absurd (filled refl)
-record_word (Unlocked v r x) word is filled e = (v, false, r, sym e)
-record_word (Locked c v r x y) word is filled e = (v, true, r, sym e)
-record_word (Copied v r x) word is filled e = absurd is
-record_word (Redirect p y) word is filled e = absurd is
-record_word Moved word is filled e = absurd is
+-- the state word of a record itself
+pub direct_word : (f : Form) (word : ℕ) → IsDirect f → state_word f ≡ word → IsRecordWord word
+direct_word f word direct says =
+    ⊎_elim (λ (z : IsUnlocked f). (z.0, false, z.1, sym says ∙ ap state_word z.3))
+    (λ (z : (c : ℕ) × IsLockedBy c f). (z.1.0, true, z.1.1, sym says ∙ ap state_word z.1.4)) direct
 
 -- a record does not forward, and was not copied away
 pub no_redirect : (word to : ℕ) → IsRecordWord word → word ≡ word_of_state (state.Redirect to) → ⊥
@@ -103,79 +96,82 @@ no_redirect word to (v, true, false, e) f = omega arith
 no_redirect word to (v, false, true, e) f = omega arith
 no_redirect word to (v, false, false, e) f = omega arith
 
+pub no_moved : (word : ℕ) → IsRecordWord word → word ≡ word_of_state state.Moved → ⊥
+no_moved word (v, true, true, e) f = omega arith
+no_moved word (v, true, false, e) f = omega arith
+no_moved word (v, false, true, e) f = omega arith
+no_moved word (v, false, false, e) f = omega arith
+
+-- the form by what the hand knows has the state word that it loaded
+pub state_says : (b : Board) (h k : Hand) (place word : ℕ) → IsHandOf b h →
+    Makes b h (LoadState place word) k → state_word (form (opening_of b) place (known k)) ≡ word
+state_says b h k place word of m =
+    ap (λ z. state_word (form (opening_of b) place z)) (known_is b h k (LoadState place word) of m)
+    ∙ (valid_after b h k (LoadState place word) of m).0.says
+
+-- ---- the record ----
+
+-- the place is one of an array, for a key, and forwards
+abbrev pub IsPointer : Opening → ℕ → Execution → Type 0
+IsPointer o place t =
+    (group : ℕ) × (key : ℕ) × (role o place t ≡ InArray group key) × IsRedirect (form o place t)
+
+-- what a caller meets at its place: the record itself, or in the array a forwarding pointer
+pub meets : (b : Board) (h : Hand) (place : ℕ) → Valid (opening_of b) (known h) →
+    IsReadyAt b h place →
+    IsDirect (form (opening_of b) place (known h)) ⊎ IsPointer (opening_of b) place (known h)
+meets b h place valid ready =
+    let o = opening_of b in
+    let own = ready.at_own in
+    let holds : HoldsRecords o own.group own.key (known h) =
+    callers_meet o h.number own.group own.key own.there.reading.caller [] (known h) valid tt
+    own.stands own.of_key in
+    ⊎_elim
+    (λ (array : role o place (known h) ≡ InArray own.group own.key). ⊎_elim
+    (λ (direct : IsDirect (form o place (known h))). inl direct)
+    (λ (redirect : IsRedirect (form o place (known h))).
+    inr (own.group, own.key, array, redirect))
+    (holds.array place array))
+    (λ (row : role o place (known h) ≡ InBuffer own.group own.key). inl (holds.rows place row))
+    own.in_group
+
 module _ (b : Board) (h k : Hand) (place word : ℕ) (ready : IsReadyAt b h place)
     (m : Makes b h (LoadState place word) k) where
-  -- the form by what the hand knows has the state word that was loaded
-  pub says_word : state_word (form (opening_of b) place (known k)) ≡ word
-  says_word =
-      ap (λ z. state_word (form (opening_of b) place z)) (known_is b h k (LoadState place word) ready.of m)
-      ∙ (valid_after b h k (LoadState place word) ready.of m).0.says
+  -- the caller is there still
+  pub loaded_ready : IsReadyAt b k place
+  loaded_ready = ready_on b h k (LoadState place word) place tt m (λ z. z) ready
 
-  pub is_record_word : IsRecordWord word
-  is_record_word =
+  -- the key is what it was
+  pub loaded_key : HasSameKey b h place place k
+  loaded_key = (
+    ready.at_own.key,
+    own_key b h place ready,
+    ap role_key (same_role b h k (LoadState place word) ready.of m tt place ready.at_own.there)
+        ∙ own_key b h place ready,
+  )
+
+  -- the record is there, or the place forwards
+  pub record_or_pointer : IsRecordWord word ⊎ IsPointer (opening_of b) place (known k)
+  record_or_pointer =
       let o = opening_of b in
-      let after = ready_on b h k (LoadState place word) place tt m (λ z. z) ready in
-      let valid = valid_known b h k (LoadState place word) ready.of m in
-      let keyed = at_keyed o k.number place (known k) valid after.at_own.there in
-      record_word (form o place (known k)) word
-      (in_place o (known k) (built_known b h k (LoadState place word) ready.of m) place)
-      (not_blank o (known k) valid place keyed.0 keyed.1) says_word
+      ⊎_elim
+      (λ (direct : IsDirect (form o place (known k))).
+      inl (direct_word (form o place (known k)) word direct
+      (state_says b h k place word ready.of m)))
+      (λ (pointer : IsPointer o place (known k)). inr pointer)
+      (meets b k place (valid_known b h k (LoadState place word) ready.of m) loaded_ready)
 
   -- so a record was found in its place
   pub found_as : IsRecordWord word → IsFoundAt b h place place word k
   found_as is =
       record {
         steps = inl (refl, m);
-        says = says_word;
+        says = state_says b h k place word ready.of m;
         is_record = is;
-        same_key = key_on b h k (LoadState place word) place tt m ready;
+        same_key = loaded_key;
       }
 
-  pub found_here : IsFoundAt b h place place word k
-  found_here = found_as is_record_word
-
--- ---- what was found ----
-
--- the steps of finding a record begin its call
-pub finding_begins : (b : Board) (h k : Hand) (place at word : ℕ) → IsHandOf b h →
-    Finds b h place at word k → HasBegun h (known k)
-finding_begins b h k place at word of finds =
-    ⊎_elim
-    (λ (here : (at ≡ place) × Makes b h (LoadState place word) k).
-    begins b h k (LoadState place word) of here.1)
-    (λ (there : (to : ℕ) × (m : Hand) × Makes b h (LoadState place (word_of_state (state.Redirect to))) m
-    × FollowsPointer b m place to at word k).
-    let first = LoadState place (word_of_state (state.Redirect there.0)) in
-    let m = there.1 in
-    begun_on h (known m) (known k) (begins b h m first of there.2)
-    (follows_on m there.0 there.2.of there.3))
-    finds
-  where
-    follows_on : (m : Hand) (to : ℕ) → IsHandOf b m → FollowsPointer b m place to at word k →
-        Continues (known m) (known k)
-    follows_on m to here follows =
-        ⊎_elim
-        (λ (one : (at ≡ to) × Makes b m (LoadState to word) k).
-        goes_on b m k (LoadState to word) here one.1)
-        (λ (two : (at ≡ place)
-        × MakesAll b m (LoadState place word ∷ LoadState to (word_of_state state.Moved) ∷ []) k).
-        let n : Hand = two.1.0 in
-        let moved = LoadState to (word_of_state state.Moved) in
-        let earlier : Makes b m moved n = subst (λ (z : Hand). Makes b z moved n) two.1.1.1 two.1.1.2 in
-        continues_trans (known m) (known n) (known k) (goes_on b m n moved here earlier)
-        (goes_on b n k (LoadState place word) earlier.of two.1.2))
-        follows
-
--- as long as nothing forwards, the record is where it was sought
-pub found_in_place : (b : Board) (h k : Hand) (place at word : ℕ) → IsReadyAt b h place →
-    Finds b h place at word k → (at ≡ place) × Makes b h (LoadState place word) k
-found_in_place b h k place at word ready finds =
-    ⊎_elim (λ (here : (at ≡ place) × Makes b h (LoadState place word) k). here)
-    (λ (there : (to : ℕ) × (m : Hand) × Makes b h (LoadState place (word_of_state (state.Redirect to))) m
-    × FollowsPointer b m place to at word k).
-    absurd (no_redirect (word_of_state (state.Redirect there.0)) there.0
-    (is_record_word b h there.1 place (word_of_state (state.Redirect there.0)) ready there.2) refl))
-    finds
+-- ---- keys ----
 
 -- the key of a place where the caller is, after a step by which it does not leave
 pub key_after : (b : Board) (h m k : Hand) (action : Action) (place at : ℕ) →

@@ -1,4 +1,7 @@
+pub mod Forwarding
 pub mod Found
+pub mod Followed
+pub mod FoundLoads
 pub mod Told
 pub mod Locked
 pub mod Changed

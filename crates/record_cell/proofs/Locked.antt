@@ -17,7 +17,8 @@ use Rattle.record_cell.specs.Finding.{CanStepAt, IsFoundAt, IsReadyAt}
 use Rattle.record_cell.specs.Locking.{HasLocked, IsRefused, LosesRace}
 use Rattle.record_cell.specs.Writes.{worn_word}
 use Rattle.index_rule.proofs.Stepping.{valid_known}
-use Rattle.record_cell.proofs.Found.{found_in_place, ready_on, same_key_on, still_at_own}
+use Rattle.record_cell.proofs.Found.{ready_on, same_key_on, still_at_own}
+use Rattle.record_cell.proofs.FoundLoads.{loaded_last}
 use Rattle.record_cell.proofs.Told.{finds_last, finds_lock, finds_none}
 
 -- an answer of either kind means what its own means
@@ -52,8 +53,8 @@ module _ (b : Board) (h m : Hand) (place at word : ℕ) (ready : IsReadyAt b h p
 
   valid : Valid (opening_of b) (known m)
   valid =
-      valid_known b h m (LoadState place word) ready.of
-      (found_in_place b h m place at word ready found.steps).1
+      let last = loaded_last b h m place at word ready found.steps in
+      valid_known b last.before m (LoadState at word) last.ready.of last.load
 
   pub worn_refused : word ≡ worn_word false → IsRefused b h place (wrote.Worn at word) m
   worn_refused worn = (

@@ -1,5 +1,5 @@
 -- The tombstone of a row is found, locked, and comes to life; or it is not revived.
-use Rattle.std.proofs.Common.{◌≡◌, ◌≢◌, inr, ⊎_elim, ℕ, true, false, Some, None, [], ◌∷◌, ◌++◌}
+use Rattle.std.proofs.Common.{◌≡◌, ◌≢◌, inr, ℕ, true, false, Some, None, [], ◌∷◌, ◌++◌}
 use Rattle.std.proofs.Common.{refl, sym, ap, ◌∙◌, subst}
 use Rattle.word_layout.specs.State.{IsUnlockedWord}
 use Rattle.map_model.specs.declared.entries.Change.{Change}
@@ -8,15 +8,14 @@ use Rattle.index_machine.specs.declared.events.Action.TheVariants.{LoadState, Lo
 use Rattle.index_machine.specs.declared.events.Action.TheVariants.{StoreValue, Unlock}
 use Rattle.index_machine.specs.Conditions.{Valid}
 use Rattle.index_machine.specs.Execution.{Execution, Without}
-use Rattle.index_machine.specs.Forms.{Form, IsLockedBy, IsUnlocked, is_removed}
-use Rattle.index_machine.specs.Forms.{live_value, state_word}
+use Rattle.index_machine.specs.Forms.{is_removed}
+use Rattle.index_machine.specs.Forms.{live_value}
 use Rattle.index_machine.specs.LivePlaces.{value_in_map}
 use Rattle.index_machine.specs.Places.{form}
 use Rattle.index_machine.specs.RecordConditions.{IsAt}
 use Rattle.index_machine.specs.Rows.{InBuffer, Role, role, role_key}
 use Rattle.index_machine.specs.Sections.{IsNoCrossing}
 use Rattle.index_machine.proofs.Executions.{valid_before}
-use Rattle.machine_readers.specs.Targets.{IsDirect}
 use Rattle.machine_readers.proofs.FormsMet.{not_blank}
 use Rattle.machine_readers.proofs.FromOpening.{value_read}
 use Rattle.index_rule.specs.declared.board.Board.{Board}
@@ -43,7 +42,8 @@ use Rattle.record_cell.specs.Reviving.{BringsToLife, MayRevive, RevivalTells}
 use Rattle.record_cell.specs.Writes.{put_at, worn_word}
 use Rattle.record_cell.proofs.Changed.{Holds, adds_entry, may_release, put_is, released, same_key_at}
 use Rattle.record_cell.proofs.Changed.{stored_holds}
-use Rattle.record_cell.proofs.Found.{can_step, found_as, ready_on, same_key_on, says_word}
+use Rattle.record_cell.proofs.Found.{can_step, direct_word, found_as, ready_on, same_key_on}
+use Rattle.record_cell.proofs.Found.{state_says}
 use Rattle.record_cell.proofs.Found.{still_at_own}
 use Rattle.record_cell.proofs.Revivable.{revivable, row_is_direct}
 use Rattle.record_cell.proofs.Told.{finds_last, finds_lock}
@@ -103,11 +103,6 @@ pub record IsAboutToLive (b : Board) (h : Hand) (place value : ℕ) (s : Hand) :
 
 -- ---- the state word ----
 
-direct_word : (f : Form) (word : ℕ) → IsDirect f → state_word f ≡ word → IsRecordWord word
-direct_word f word direct says =
-    ⊎_elim (λ (z : IsUnlocked f). (z.0, false, z.1, sym says ∙ ap state_word z.3))
-    (λ (z : (c : ℕ) × IsLockedBy c f). (z.1.0, true, z.1.1, sym says ∙ ap state_word z.1.4)) direct
-
 -- what the caller knows once it has loaded the state word of the row
 module _ (b : Board) (h m : Hand) (place word : ℕ) (ready : IsReadyAt b h place)
     (may : MayRevive (opening_of b) h.number place (known h))
@@ -132,7 +127,7 @@ module _ (b : Board) (h m : Hand) (place word : ℕ) (ready : IsReadyAt b h plac
   is_record =
       direct_word (form (opening_of b) place (known m)) word
       (row_is_direct (opening_of b) m.number lone.key lone.group place (known m) valid lone.elsewhere
-      lone.row) (says_word b h m place word ready load)
+      lone.row) (state_says b h m place word ready.of load)
 
   found : IsFoundAt b h place place word m
   found = found_as b h m place word ready load is_record

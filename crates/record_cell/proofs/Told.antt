@@ -39,7 +39,8 @@ use Rattle.record_cell.specs.Finding.{CanStepAt, IsFoundAt, IsReadyAt}
 use Rattle.record_cell.specs.Reads.{FindsLock, FindsNone, FindsValue, GoneIsAbsent}
 use Rattle.record_cell.specs.Reads.{HasNoValueElsewhere}
 use Rattle.record_cell.specs.Writes.{FindsLastVersion, worn_word}
-use Rattle.record_cell.proofs.Found.{finding_begins, found_in_place, ready_on}
+use Rattle.record_cell.proofs.Found.{ready_on}
+use Rattle.record_cell.proofs.FoundLoads.{finding_begins, loaded_last, removed_there}
 
 -- ---- values ----
 
@@ -57,19 +58,16 @@ pub read_value : (b : Board) (h m n k : Hand) (place at word value : ℕ) → Is
     Makes b n (LoadState at word) k → FindsValue b h place value k
 read_value b h m n k place at word value ready found live l s =
     let o = opening_of b in
-    let here = found_in_place b h m place at word ready found.steps in
-    let first : Makes b h (LoadState at word) m =
-    subst (λ (z : ℕ). Makes b h (LoadState z word) m) (sym here.0) here.1
-    in
-    let there : IsAt o h.number at (known h) =
-    subst (λ (z : ℕ). IsAt o h.number z (known h)) (sym here.0) ready.at_own.there
-    in
+    let last = loaded_last b h m place at word ready found.steps in
+    let first : Makes b last.before (LoadState at word) m = last.load in
     let enclosed =
-    value_enclosed b h m n k at word value live.0 false ready.of first l s there (sym live.1)
+    value_enclosed b last.before m n k at word value live.0 false last.ready.of first l s last.there
+    (sym live.1)
     in
     let in_map =
     value_in_map_at b m n at value live.0 found.same_key.0 first.of l
-    (still_at b h m (LoadState at word) ready.of first tt at there) found.same_key.2 enclosed
+    (still_at b last.before m (LoadState at word) last.ready.of first tt at last.there)
+    found.same_key.2 enclosed
     in
     let moment : Execution = l.acts.0 ++ known m in
     let begun = finding_begins b h m place at word ready.of found.steps in (
@@ -80,8 +78,10 @@ read_value b h m n k place at word value ready found live l s =
           (from_there b m n (LoadValue at value) first.of l)
           (goes_on b n k (LoadState at word) l.of s)),
       role_at_moment b m n (LoadValue at value) first.of l place
-          (ready_on b h m (LoadState place word) place tt here.1 (λ z. z) ready).at_own.there
-          ∙ same_role b h m (LoadState place word) ready.of here.1 tt place ready.at_own.there,
+          (ready_on b last.before m (LoadState at word) place tt first (λ z. z) last.ready).at_own.there
+          ∙ (same_role b last.before m (LoadState at word) last.ready.of first tt place
+          last.ready.at_own.there
+          ∙ last.still),
       subst (λ (z : ℕ). value_in_map o z moment ≡ Some value)
           (sym (ap or_zero found.same_key.1)) in_map,
     )
@@ -137,16 +137,19 @@ pub finds_none : (b : Board) (h k : Hand) (place at word : ℕ) → IsReadyAt b 
     IsFoundAt b h place at word k → IsTombstoneState word → FindsNone b h place k
 finds_none b h k place at word ready found stone =
     let o = opening_of b in
-    let here = found_in_place b h k place at word ready found.steps in
-    let valid = valid_known b h k (LoadState place word) ready.of here.1 in
+    let last = loaded_last b h k place at word ready found.steps in
+    let valid = valid_known b last.before k (LoadState at word) last.ready.of last.load in
     let f = unlocked_by_word (form o at (known k)) stone.0 true
     (not_blank o (known k) valid at found.same_key.0 found.same_key.2) (found.says ∙ stone.1) in
     let none : HasNoValue o (known k) place =
-    inl (ap (λ (z : ℕ). is_removed (form o z (known k))) (sym here.0) ∙ ap is_removed f.1)
+    removed_there b h k place at word ready found.steps (inl (stone.0, true, f.0, f.1))
+    (ap is_removed f.1)
     in (
       known k,
       within_end h k (finding_begins b h k place at word ready.of found.steps),
-      same_role b h k (LoadState place word) ready.of here.1 tt place ready.at_own.there,
+      same_role b last.before k (LoadState at word) last.ready.of last.load tt place
+          last.ready.at_own.there
+          ∙ last.still,
       none,
       λ elsewhere. absent o (known k) valid place (key_at o place (known h)) none elsewhere,
     )

@@ -6,10 +6,12 @@ use Rattle.index_machine.specs.declared.events.Action.TheVariants.{LoadState}
 use Rattle.index_machine.specs.declared.opening.Opening.{Opening}
 use Rattle.index_machine.specs.Execution.{Execution}
 use Rattle.index_machine.specs.Forms.{state_word}
+use Rattle.index_machine.specs.Forms.{Redirect as Forwards}
 use Rattle.index_machine.specs.Places.{form, IsInGroup}
 use Rattle.index_machine.specs.Reaching.{stands_in}
 use Rattle.index_machine.specs.RecordConditions.{IsAt, HoldsNoLock}
 use Rattle.index_machine.specs.Rows.{role, role_key}
+use Rattle.machine_buffers.specs.Groups.{IsKeyOf}
 use Rattle.index_rule.specs.declared.board.Board.{Board}
 use Rattle.index_rule.specs.declared.hand.Hand.{Hand}
 use Rattle.index_rule.specs.Hands.{IsHandOf, Makes, MakesAll, known, opening_of}
@@ -25,6 +27,8 @@ pub record IsAtOwn (o : Opening) (hand place : ℕ) (t : Execution) : Type 0 whe
   pub key : ℕ
   pub stands : stands_in hand group t ≡ true
   pub in_group : IsInGroup o t group key place
+  -- else the record could have been copied away from there
+  pub of_key : IsKeyOf o group key t
 
 -- the hand is of the board, is at the place inside its read section, and holds no version lock
 pub record IsReadyAt (b : Board) (h : Hand) (place : ℕ) : Type 0 where
@@ -37,6 +41,10 @@ pub record CanStepAt (b : Board) (h : Hand) (place : ℕ) : Type 0 where
   pub of : IsHandOf b h
   pub there : IsAt (opening_of b) h.number place (known h)
   pub holds_none : HoldsNoLock (opening_of b) h.number (known h)
+
+-- the place is a forwarding pointer to this one
+abbrev pub ForwardsTo : Opening → ℕ → ℕ → Execution → Type 0
+ForwardsTo o place to t = (value : ℕ) × (form o place t ≡ Forwards to value)
 
 -- ---- the steps of finding it ----
 

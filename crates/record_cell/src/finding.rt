@@ -1,7 +1,9 @@
 //! Where the record of a place is.
 ghost use Rattle.std.specs.Prelude.{◌≡◌};
+ghost use Rattle.index_rule.specs.Hands.{known, opening_of};
 ghost use Rattle.index_rule.specs.Moments.{AddsNoEntry};
-ghost use Rattle.record_cell.specs.Finding.{IsReadyAt, CanStepAt, FollowsPointer, IsFoundAt};
+ghost use Rattle.record_cell.specs.Finding.{CanStepAt, FollowsPointer, ForwardsTo};
+ghost use Rattle.record_cell.specs.Finding.{IsFoundAt, IsReadyAt};
 ghost use Rattle.record_cell.specs.Conditions.{IsRecordWord, SaysCondition};
 
 use index_rule::{Board, Hand};
@@ -64,11 +66,13 @@ pub(crate) fn find(board: &Board, hand: &mut Hand, place: u32) -> Record
 /// meanwhile, it stands at the first place by now.
 fn follow(board: &Board, hand: &mut Hand, place: u32, to: u32) -> Record
     requires ready { IsReadyAt board.now hand.old place }
+    requires forwards { ForwardsTo (opening_of board.now) place to (known hand.old) }
     requires target { CanStepAt board.now hand.old to }
     ensures number { hand.new.number ≡ hand.old.number }
     ensures ready { IsReadyAt board.now hand.new place }
     ensures can_step { CanStepAt board.now hand.new result.place }
     ensures steps { FollowsPointer board.now hand.old place to result.place result.word hand.new }
+    ensures is_record { IsRecordWord result.word }
     ensures log { AddsNoEntry hand.old hand.new }
 {
     let word = board.load_state(hand, to);

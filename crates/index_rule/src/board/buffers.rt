@@ -12,8 +12,9 @@ ghost use Rattle.index_machine.specs.declared.events.Action.TheVariants.{LoadLin
 ghost use Rattle.index_machine.specs.Lanes.{lanes};
 ghost use Rattle.index_machine.specs.Words.{shape, link_behind};
 ghost use Rattle.machine_buffers.specs.Walks.{IsWalkable};
-ghost use Rattle.index_rule.specs.Buffers.{CanSeePhase, CanWalk, IsLaneHeader, IsRowOf};
+ghost use Rattle.index_rule.specs.Buffers.{CanSeePhase, CanWalk, IsLaneHeader, IsLoadable, IsRowOf};
 ghost use Rattle.index_rule.specs.Buffers.{Links, MayInsertRow, TellsBegun};
+ghost use Rattle.index_rule.specs.Chains.{TellsHeader};
 ghost use Rattle.index_rule.specs.Hands.{IsHandOf, Makes, known, opening_of};
 ghost use Rattle.index_rule.specs.OwnRows.{place_of_private};
 
@@ -25,18 +26,23 @@ use crate::swap::Linked;
 use word_layout::{HeaderWord, link_word};
 
 impl Board {
-    /// Loads the number of lanes of a group's buffer, or the cut of a lane: its least key.
+    /// Loads a word of a group's header: its pivot, its size, the error of its line, the number of lanes of its
+    /// buffer, or the cut of a lane, which is the lane's least key.
     ///
-    /// Both stay as the group was begun with them, so any number of them that are loaded belong together.
+    /// The number of lanes and the cuts stay as the group was begun with them, so any number of them that are
+    /// loaded belong together.
     #[inline]
     pub fn load_header(&self, hand: &mut Hand, group: u32, which: HeaderWord) -> u64
         requires hand { IsHandOf self.now hand.old }
         requires group { group < group_total (shape (opening_of self.now)) }
         requires may { CanWalk (opening_of self.now) hand.old.number group (known hand.old) }
-        requires which { IsLaneHeader (opening_of self.now) group which (known hand.old) }
+        requires which { IsLoadable (opening_of self.now) group which (known hand.old) }
         ensures step { Makes self.now hand.old (LoadHeader group which result) hand.new }
-        ensures tells { IsWalkable (opening_of self.now) group (known hand.old) →
+        ensures tells { IsLaneHeader (opening_of self.now) group which (known hand.old) →
+            IsWalkable (opening_of self.now) group (known hand.old) →
             TellsBegun (opening_of self.now) group which result (known hand.old)
+            (known hand.new) }
+        ensures says { TellsHeader (opening_of self.now) hand.new.number group which result
             (known hand.new) }
     {
         let address = self.layout.header(group, which.number());

@@ -12,7 +12,7 @@ count-requires c =
     let o = opening_of b in
     let h = c.args.keeper.now in
     let k = c.load_root.new.hand in
-    let loads = c.load_root.ensures in
+    let loads = c.load_root.ensures.step in
     let least = o.layout.kept.least_groups in
     let built = built_known b h k (LoadRoot 0 c.load_root.result) c.requires.hand loads in
     keepers_follow b k 0 loads.of (keeps_zero b k (loads.number ∙ c.requires.number)) (omega arith)

@@ -26,6 +26,7 @@ loop-low-preserved-then-key g c =
       fits = omega arith;
       reads = omega arith;
       reads_kept = omega arith;
+      leads = g.met.K.Keys.leads_on _ _ _ c.loop-low.invariant.leads c.key.ensures.leads;
     }
 
 pub loop-low-preserved : goal.loop-low-preserved
@@ -48,6 +49,7 @@ loop-low-preserved g c =
       fits = omega arith;
       reads = omega arith;
       reads_kept = omega arith;
+      leads = g.met.K.Keys.leads_on _ _ _ c.loop-low.invariant.leads c.key.ensures.leads;
     }
 
 pub returns-clause-probes : goal.returns-clause-probes

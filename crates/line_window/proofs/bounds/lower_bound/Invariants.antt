@@ -16,6 +16,7 @@ invariant-loop-low g l =
       fits : l.comparisons + (l.high - l.low) < 2 ^ 64;
       reads : g.K.Keys.reads l.keys ≤ g.K.Keys.reads l.fn.keys + l.comparisons;
       reads_kept : g.K.Keys.reads l.fn.keys ≤ g.K.Keys.reads l.keys;
+      leads : g.K.Keys.leads_to l.fn.keys l.keys;
     }
 
 abbrev pub decreases-loop-low : goal.decreases-loop-low

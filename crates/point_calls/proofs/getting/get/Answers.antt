@@ -31,8 +31,19 @@ miss-requires c =
 
 pub read-requires : goal.read-requires
 read-requires c =
-    ready_row c.args.board.now c.locate-lane.result.group c.args.key c.in-Row.place c.find.new.hand
-    c.find.ensures.search c.in-Row.ensures.finds
+    let b = c.args.board.now in
+    let h = c.args.hand.now in
+    let l = c.locate-lane.new.hand in
+    let n = c.find.new.hand in
+    let lane = c.locate-lane.result in
+    let key : ℕ = c.args.key in
+    let most : key ≤ greatest_key = omega arith in
+    let comes = c.locate-lane.ensures.comes in
+    let il = in_comes b h l key lane c.requires.call.of comes in
+    let w = c.find.ensures.steps in
+    let i = in_walk b lane.group lane.number h l w.0 n w.1 w.2 il in
+    ready_row b lane.group key c.in-Row.place n c.find.ensures.search
+    (group_reached b h l n key lane comes il i most) c.in-Row.ensures.finds
 
 pub miss-requires-in-Gone : goal.miss-requires-in-Gone
 miss-requires-in-Gone c =

@@ -1,5 +1,4 @@
 use Rattle.std.proofs.Common.{inl, ℕ, sym, subst}
-use Rattle.index_rule.specs.Hands.{opening_of}
 use Rattle.sorted_group.specs.declared.answers.Lane.{Lane}
 use Rattle.sorted_group.proofs.BufferLoads.{searches_follow}
 use Rattle.point_calls.specs.Lookup.{ComesTo}

@@ -31,8 +31,9 @@ revive-requires c =
     let m = c.load_phase.ensures in
     let word : ℕ = c.load_phase.result in
     let at = found.group_of in
+    let seen = group_seen b h before n g key word at m in
     record {
-      ready = ready_row b g key place n (group_seen b h before n g key word at m).search
+      ready = ready_row b g key place n seen.search seen.own
           (row_seen b h before n g key word at m place found.row);
       may = may_revive b h before n g key word at m place c.requires.empty found.row;
     }

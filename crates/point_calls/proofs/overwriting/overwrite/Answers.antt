@@ -15,7 +15,7 @@ pub update-requires : goal.update-requires
 update-requires c =
     let found = c.requires.found in
     ready_row c.args.board.now c.args.row.group c.args.row.key c.args.row.place c.args.hand.now
-    found.group_of.search found.row
+    found.group_of.search found.group_of.own found.row
 
 pub bring_back-requires-clause-found : goal.bring_back-requires-clause-found
 bring_back-requires-clause-found c =

@@ -31,15 +31,21 @@ overflow_add-middle-in-loop-low c =
 pub loop-low-preserved-then-cut-key : goal.loop-low-preserved-then-cut-key
 loop-low-preserved-then-cut-key c =
     let test = c.if-cut-key.true in
+    let left = c.loop-low-test.true in
+    let most = c.loop-low.invariant.in_lanes in
     goes_up c.args.board.now c.args.group c.args.key c.loop-low.low c.loop-low.high _
     c.load_header-cut.result c.args.hand.now c.loop-low.hand c.load_header-cut.new.hand
     c.loop-low.invariant c.loop-low-test.true refl c.load_header-cut.ensures.step
-    (c.load_header-cut.ensures.tells c.loop-low.invariant.can.walkable) (omega arith)
+    (c.load_header-cut.ensures.tells (omega (arith, most, left)) c.loop-low.invariant.can.walkable)
+    (omega arith)
 
 pub loop-low-preserved : goal.loop-low-preserved
 loop-low-preserved c =
     let test = c.if-cut-key.false in
+    let left = c.loop-low-test.true in
+    let most = c.loop-low.invariant.in_lanes in
     goes_down c.args.board.now c.args.group c.args.key c.loop-low.low c.loop-low.high _
     c.load_header-cut.result c.args.hand.now c.loop-low.hand c.load_header-cut.new.hand
     c.loop-low.invariant c.loop-low-test.true refl c.load_header-cut.ensures.step
-    (c.load_header-cut.ensures.tells c.loop-low.invariant.can.walkable) (omega arith)
+    (c.load_header-cut.ensures.tells (omega (arith, most, left)) c.loop-low.invariant.can.walkable)
+    (omega arith)

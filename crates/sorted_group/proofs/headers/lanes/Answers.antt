@@ -9,7 +9,7 @@ pub overflow_cast-result : goal.overflow_cast-result
 overflow_cast-result c =
     let few = few_lanes c.args.board.now c.args.group c.load_header.result c.args.hand.now
     c.load_header.new.hand c.requires.of c.load_header.ensures.step
-    (c.load_header.ensures.tells c.requires.walkable) in
+    (c.load_header.ensures.tells tt c.requires.walkable) in
     omega arith
 
 pub returns-clause-can : goal.returns-clause-can
@@ -26,4 +26,4 @@ pub returns-clause-few : goal.returns-clause-few
 returns-clause-few c =
     few_lanes c.args.board.now c.args.group c.load_header.result c.args.hand.now
     c.load_header.new.hand c.requires.of c.load_header.ensures.step
-    (c.load_header.ensures.tells c.requires.walkable)
+    (c.load_header.ensures.tells tt c.requires.walkable)

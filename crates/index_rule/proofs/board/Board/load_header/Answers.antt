@@ -9,6 +9,7 @@ use Rattle.index_rule.specs.Rule.{Acts}
 use Rattle.index_rule.specs.Steps.{header_load}
 use Rattle.index_rule.proofs.StepKinds.{at_address, at_word, inside, makes, named_in}
 use Rattle.index_rule.proofs.BufferSteps.{header_below, header_by_hand, header_told, loads_header}
+use Rattle.index_rule.proofs.ChainStepping.{header_says}
 use Rattle.index_rule.proofs.board.Board.load_header.Goals as goal
 
 pub number-requires : goal.number-requires
@@ -60,7 +61,8 @@ returns c =
     c.load.ensures.2.acts) in
     record {
       step = step;
-      tells = λ walkable.
+      tells = λ is walkable.
           header_told b h _ c.args.group c.args.which c.load.result c.requires.hand step
-          c.requires.may c.requires.which walkable;
+          c.requires.may is walkable;
+      says = header_says b h _ c.args.group c.load.result c.args.which c.requires.hand step;
     }

@@ -8,6 +8,7 @@ use Rattle.index_rule.specs.Rule.{Acts}
 use Rattle.index_rule.specs.Steps.{root_load}
 use Rattle.index_rule.proofs.StepKinds.{inside, at_word, named_in, makes}
 use Rattle.index_rule.proofs.RootSteps.{loads_root}
+use Rattle.index_rule.proofs.ChainStepping.{root_told}
 use Rattle.index_rule.proofs.board.Board.load_root.Goals as goal
 
 pub root_offset-offset-requires : goal.root_offset-offset-requires
@@ -31,6 +32,10 @@ returns c =
     let h = c.args.hand.now in
     let w = Root c.args.part in
     let name = named_in b h w _ c.requires.hand c.requires.part c.root_offset-offset.ensures in
-    makes b h _ _ c.requires.hand c.load.ensures.0 refl
+    let step = makes b h _ _ c.requires.hand c.load.ensures.0 refl
     (subst (λ (u : Word). Acts (view h) (root_load u c.load.result) c.load.new.seat.me.0) name
-    c.load.ensures.2.acts)
+    c.load.ensures.2.acts) in
+    record {
+      step = step;
+      tells = root_told b h _ c.args.part c.load.result c.requires.hand step;
+    }

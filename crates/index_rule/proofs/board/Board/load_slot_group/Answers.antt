@@ -11,6 +11,7 @@ use Rattle.index_rule.specs.Rule.{Acts}
 use Rattle.index_rule.specs.Steps.{slot_group_load}
 use Rattle.index_rule.proofs.StepKinds.{at_address, at_word, inside, makes, named_in}
 use Rattle.index_rule.proofs.RootSteps.{loads_slot_group, slot_by_hand}
+use Rattle.index_rule.proofs.ChainStepping.{slot_group_told}
 use Rattle.index_rule.proofs.board.Board.load_slot_group.Goals as goal
 
 -- the slot is one of the layout of the board
@@ -60,6 +61,11 @@ returns c =
     slot_by_hand b h c.args.part c.args.side c.args.slot c.requires.hand c.requires.may in
     let at = at_address b w _ _ c.cold_offset-offset.ensures c.slot_group.ensures.named in
     let name = named_in b h w _ c.requires.hand there at in
-    makes b h _ _ c.requires.hand c.load.ensures.0 refl
+    let step = makes b h _ _ c.requires.hand c.load.ensures.0 refl
     (subst (λ (u : Word). Acts (view h) (slot_group_load u c.load.result) c.load.new.seat.me.0) name
-    c.load.ensures.2.acts)
+    c.load.ensures.2.acts) in
+    record {
+      step = step;
+      tells = λ is_part reading sees.
+          slot_group_told b h _ c.args.part c.args.side c.args.slot c.load.result c.requires.hand reading sees is_part step;
+    }

@@ -9,6 +9,7 @@ invariant-loop-place g l =
       list : g.K.Keys.list l.keys ≡ g.K.Keys.list l.fn.keys;
       origin : g.K.Keys.origin l.keys ≡ g.K.Keys.origin l.fn.keys;
       reads_kept : g.K.Keys.reads l.fn.keys ≤ g.K.Keys.reads l.keys;
+      leads : g.K.Keys.leads_to l.fn.keys l.keys;
       reads_raised : g.K.Keys.reads l.keys ≤ g.K.Keys.reads l.fn.keys + 2 + l.place;
       error : max l.error (error_from (guess_of l.line) l.place (drop l.place (g.K.Keys.list l.fn.keys))) ≡ error_of (g.K.Keys.list l.fn.keys);
     }

@@ -1,0 +1,12 @@
+pub mod InTable
+pub mod Steps
+pub mod Ahead
+pub mod Walked
+pub mod NewPivots
+pub mod NewWalked
+pub mod Rooted
+pub mod SlotChoice
+pub mod Entered
+pub mod KeysAhead
+pub mod KeysEnd
+pub mod WayLoads
