@@ -9,7 +9,7 @@ use Rattle.layout_model.specs.Groups.{group_for, probes_in}
 use Rattle.layout_model.specs.Layout.{Layout, part_for, part_number, with_caller, with_part}
 use Rattle.layout_model.specs.Phase.{Phase, Open, Frozen, Opened}
 use Rattle.layout_model.specs.Records.{Found, InBuffer, InNewBuffer, Spot, cells_for, live_record}
-use Rattle.layout_model.specs.Records.{with_cell}
+use Rattle.layout_model.specs.Records.{with_added, with_replaced}
 
 -- ---- answers ----
 
@@ -38,22 +38,30 @@ most_probes = 18446744073709551615
 
 -- ---- what a call leaves ----
 
--- the caller located the key
-abbrev pub located : Shape → ℕ → ℕ → Layout → Layout
-located h c k s =
-    let more = probes_in (group_for (part_for h s k).chain k) k in
+-- how many keys are compared to locate a key
+abbrev pub probes_for_key : Shape → Layout → ℕ → ℕ
+probes_for_key h s k = probes_in (group_for (part_for h s k).chain k) k
+
+-- the caller has compared so many keys more
+abbrev pub with_probes : ℕ → ℕ → Layout → Layout
+with_probes c more s =
     record s { probes = with_caller c (min (s.probes c + more) most_probes) s.probes }
 
--- the layout with this record at a spot
-abbrev pub with_record : Shape → Spot → Cell → Layout → Layout
-with_record h spot new s =
-    with_part (part_number h new.key) (with_cell spot new (part_for h s new.key)) s
+-- the caller located the key
+abbrev pub located : Shape → ℕ → ℕ → Layout → Layout
+located h c k s = with_probes c (probes_for_key h s k) s
 
--- a record is written: its version is raised, or where this is the last one, nothing is done
+-- the layout with another record in the place of one that was found, its version raised
+abbrev pub with_written : Shape → Found → Cell → Layout → Layout
+with_written h at new s =
+    let next = record new { version = at.cell.version + 1 } in
+    with_part (part_number h new.key) (with_replaced at.spot next (part_for h s new.key)) s
+
+-- a record is written, or where its version is the last one, nothing is done
 abbrev pub written : Shape → Option ℕ → Found → Cell → Layout → Outcome
 written h old at new s =
     cond (at.cell.version == last_version) (outcome Worn s)
-    (outcome (Done old) (with_record h at.spot (record new { version = at.cell.version + 1 }) s))
+    (outcome (Done old) (with_written h at new s))
 
 -- ---- get ----
 
@@ -72,11 +80,16 @@ abbrev pub new_cell : Shape → ℕ → ℕ → Cell
 new_cell h k v =
     record { key = k; value = v; version = h.limits.first_version; removed = false }
 
+-- the layout with a new row of the key at a spot, where so many are still free
+abbrev pub with_row : Shape → Spot → ℕ → ℕ → ℕ → Layout → Layout
+with_row h spot k v left s =
+    with_part (part_number h k) (with_added spot (new_cell h k v) (part_for h s k))
+    (record s { free_rows = left })
+
 -- a row is taken and linked at a spot, where one is free
 abbrev pub linked : Shape → Spot → ℕ → ℕ → ℕ → Layout → Outcome
 linked h spot k v zero s = outcome Full s
-linked h spot k v (suc left) s =
-    outcome (Done None) (record (with_record h spot (new_cell h k v) s) { free_rows = left })
+linked h spot k v (suc left) s = outcome (Done None) (with_row h spot k v left s)
 
 -- a key without a value goes to a spot: its removed row there is revived, or it gets a new row
 abbrev pub inserted : Shape → Spot → ℕ → ℕ → Option Cell → Layout → Outcome

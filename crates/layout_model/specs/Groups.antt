@@ -2,7 +2,7 @@
 --
 -- The fact to remember: a record that is forwarded counts as a record of the array that forwards to it, so a group
 -- between its install and its copy has its records as any other.
-use Rattle.std.specs.Prelude.{ℕ, ◌+◌, List, [], map, length, flat_map, count_by, slice_index_or, slice_set}
+use Rattle.std.specs.Prelude.{ℕ, ◌+◌, List, [], map, length, flat_map, count_by, sum_by, slice_index_or, slice_set}
 use Rattle.line_window.specs.Search.{probes_of}
 use Rattle.layout_model.specs.Cells.{Cell, keys_of, live_cells, merged}
 use Rattle.layout_model.specs.Phase.{Phase, Open}
@@ -62,9 +62,9 @@ with_array cells g = record g { array = cells }
 
 -- ---- counts ----
 
--- how many rows the buffer has, removed ones included
+-- how many rows all lanes have, removed ones included
 abbrev pub row_count : Group → ℕ
-row_count g = length (rows_of g)
+row_count g = sum_by (λ lane. length lane.rows) g.lanes
 
 -- how many records of the array are removed
 abbrev pub removed_count : Group → ℕ

@@ -16,6 +16,13 @@ pub mod Line
 pub mod Told
 pub mod Replay
 pub mod Opening
+pub mod CallLaws
+pub mod Refusals
+pub mod WellFormed
+pub mod RowLaws
+pub mod Pairs
+pub mod OpeningLaws
+pub mod ReplayLaws
 pub mod Scripts
 pub mod WorkedCalls
 pub mod WorkedRebuilds

@@ -8,10 +8,10 @@ use Rattle.map_model.specs.declared.calls.Near.TheVariants.{Row, Gap}
 use Rattle.map_model.specs.Map.{Map}
 use Rattle.word_layout.specs.Parts.{greatest_key}
 use Rattle.word_layout.specs.Shape.{Shape}
-use Rattle.layout_model.specs.Calls.{most_probes}
+use Rattle.layout_model.specs.Calls.{probes_for_key, with_probes}
 use Rattle.layout_model.specs.Cells.{key_from}
-use Rattle.layout_model.specs.Groups.{Group, cuts_of, group_at, group_for, pivots_of, probes_in}
-use Rattle.layout_model.specs.Layout.{Layout, Part, behind, part_end, part_for, with_caller}
+use Rattle.layout_model.specs.Groups.{Group, cuts_of, group_at, group_for, pivots_of}
+use Rattle.layout_model.specs.Layout.{Layout, Part, behind, part_end, part_for}
 use Rattle.layout_model.specs.Phase.{Phase, Open, Frozen, Opened}
 use Rattle.layout_model.specs.Records.{Found, InArray, InBuffer, InNewBuffer, cells_for, live_record}
 use Rattle.layout_model.specs.Stretches.{end_of}
@@ -119,9 +119,8 @@ abbrev pub pairs_of : List Answer → Map
 pairs_of answers = flat_map (λ a. pair_of a.near) answers
 
 -- how many keys are compared to locate those from which the answers seek
-abbrev pub probes_for : Shape → Layout → List Answer → ℕ
-probes_for h s answers =
-    sum_by (λ a. probes_in (group_for (part_for h s a.from).chain a.from) a.from) answers
+abbrev pub probes_for_answers : Shape → Layout → List Answer → ℕ
+probes_for_answers h s answers = sum_by (λ a. probes_for_key h s a.from) answers
 
 -- the pairs that a scan finds, and the layout that it leaves
 pub record Scanned : Type 0 where
@@ -132,11 +131,4 @@ pub record Scanned : Type 0 where
 abbrev pub scan : Shape → ℕ → ℕ → ℕ → Layout → Scanned
 scan h c from wanted s =
     let answers = answers_of h s from wanted in
-    record {
-      pairs = pairs_of answers;
-      left =
-          record s {
-            probes =
-                with_caller c (min (s.probes c + probes_for h s answers) most_probes) s.probes;
-          };
-    }
+    record { pairs = pairs_of answers; left = with_probes c (probes_for_answers h s answers) s }

@@ -1,6 +1,7 @@
 -- The stages of a keeper: what its next turn is about.
 --
--- Each is named by what was done last, but for `Look`, where no rebuild is under way.
+-- At `Look` no rebuild is under way. `Ready`, `Copying` and `Reclaiming` are named by what the next turn does, and
+-- each other stage by what was done last.
 pub data Stage : Type 0 where
   Look : Stage
   Frozen : Stage

@@ -54,3 +54,18 @@ ArraysReviveNothing = Plays (small 1 100 4 1)
     ((says (Put 0 5 50) New ∷ rebuild 0 1 1 1 1)
     ++ (says (Remove 0 5) (Old 50) ∷ says (Put 0 5 51) New ∷ says (Get 0 5) (Value 51)
     ∷ shows (GroupLine 0 1 1 1 phase.Open ∷ FreeLine 99 3 ∷ []) ∷ []))
+
+-- a key whose removed record in the array has the last version gets a new row, whose versions begin anew
+abbrev pub WornArraysGetRows : Type 0
+WornArraysGetRows = Plays (from_version 1152921504606846974)
+    ((says (Put 0 5 50) New ∷ rebuild 0 1 1 1 1)
+    ++ (says (Remove 0 5) (Old 50) ∷ says (Put 0 5 51) New ∷ says (Put 0 5 52) (Old 51)
+    ∷ says (Put 0 5 53) Worn ∷ says (Get 0 5) (Value 52)
+    ∷ shows (GroupLine 0 1 1 1 phase.Open ∷ FreeLine 99 3 ∷ []) ∷ []))
+
+-- a removed row is revived where no row is free, and a key without a row is refused there
+abbrev pub RevivalsTakeNoRow : Type 0
+RevivalsTakeNoRow = Plays (small 1 2 4 8)
+    (says (Put 0 1 10) New ∷ says (Put 0 2 20) New ∷ says (Remove 0 2) (Old 20)
+    ∷ says (Put 0 3 30) Full ∷ says (Put 0 2 21) New
+    ∷ shows (GroupLine 0 0 0 2 phase.Open ∷ FreeLine 0 3 ∷ []) ∷ [])

@@ -2,7 +2,7 @@
 use Rattle.std.specs.Prelude.{ℕ, zero, suc, ◌+◌, [], ◌∷◌, ◌++◌}
 use Rattle.map_model.specs.Map.{Map}
 use Rattle.word_layout.specs.Shape.{in_one_part}
-use Rattle.layout_model.specs.Line.{Get, Probes}
+use Rattle.layout_model.specs.Line.{Get, Probes, Put}
 use Rattle.layout_model.specs.Phase as phase
 use Rattle.layout_model.specs.Scripts.{Plays, PlaysFrom, few_slots, puts, rebuild, removes, says, shows}
 use Rattle.layout_model.specs.Scripts.{small, turns, turns_to_opened}
@@ -43,3 +43,16 @@ abbrev pub OpenedWithRows : Type 0
 OpenedWithRows = PlaysFrom (in_one_part (small 2 100 4 8)) (pairs_from 1 12)
     (shows (GroupLine 0 6 0 0 phase.Open ∷ GroupLine 7 6 0 0 phase.Open ∷ FreeLine 100 2 ∷ [])
     ∷ says (Get 0 7) (Value 7) ∷ says (Get 0 13) NoValue ∷ [])
+
+-- a look begins at the cursor, and goes round the chain to the groups before it
+abbrev pub LooksGoRound : Type 0
+LooksGoRound = PlaysFrom (in_one_part (small 1 100 8 1)) (pairs_from 10 12)
+    ((says (Put 0 1 1) New ∷ rebuild 0 2 7 1 1)
+    ++ (says (Put 0 2 2) New ∷ says (Put 0 30 30) New ∷ rebuild 16 2 7 1 1) ++ rebuild 0 1 5 1 1
+    ++ (turns (turn.Looked 4) ∷ says (Put 0 3 3) New ∷ turns (turn.Frozen 0) ∷ []))
+
+-- with more groups than slots, a root has a slot for each second group
+abbrev pub RootsSkipGroups : Type 0
+RootsSkipGroups = Plays (few_slots 8 1)
+    (puts 10 25 ++ rebuild 0 5 25 25 1
+    ++ (turns (turn.RootBuilt 3) ∷ says (Get 0 160) (Value 1600) ∷ turns (turn.Looked 5) ∷ []))

@@ -2,9 +2,9 @@
 use Rattle.std.specs.Prelude.{[], ◌∷◌, ◌++◌}
 use Rattle.layout_model.specs.Line.{Get, Put, Remove, Hold, Free}
 use Rattle.layout_model.specs.Phase as phase
-use Rattle.layout_model.specs.Scripts.{Plays, few_slots, puts, says, shows, small, turns}
+use Rattle.layout_model.specs.Scripts.{Plays, few_slots, from_version, puts, says, shows, small, turns}
 use Rattle.layout_model.specs.Scripts.{turns_from_install, turns_to_opened}
-use Rattle.layout_model.specs.Told.{AgainFrozen, FreeLine, Freed, GroupLine, Held, New, NoValue, Old, Value}
+use Rattle.layout_model.specs.Told.{AgainFrozen, FreeLine, Freed, GroupLine, Held, New, NoValue, Old, Value, Worn}
 use Rattle.layout_model.specs.Turn as turn
 
 -- a frozen group refuses new keys alone, and the rebuild runs to its end
@@ -64,3 +64,32 @@ RemovedThroughForwarding = Plays (small 1 100 4 2)
     ∷ shows (GroupLine 0 2 1 0 phase.Open ∷ FreeLine 98 2 ∷ []) ∷ turns (turn.Quiet 2)
     ∷ turns (turn.Copied 2) ∷ shows (GroupLine 0 2 1 0 phase.Open ∷ FreeLine 98 2 ∷ [])
     ∷ turns (turn.Quiet 3) ∷ turns (turn.Reclaimed 2 1) ∷ []))
+
+-- at Ready a frozen group refuses new keys alone; at Copying and Reclaiming the new group takes them
+abbrev pub ChangedBeforeEachTurn : Type 0
+ChangedBeforeEachTurn = Plays (small 1 100 4 1)
+    (says (Put 0 1 10) New ∷ says (Put 0 2 20) New ∷ turns (turn.Frozen 0) ∷ turns (turn.Quiet 1)
+    ∷ says (Put 0 1 11) (Old 10) ∷ says (Put 0 3 30) AgainFrozen ∷ says (Remove 0 2) (Old 20)
+    ∷ says (Put 0 2 21) AgainFrozen ∷ turns (turn.Opened 1) ∷ turns (turn.Installed 1)
+    ∷ turns (turn.Quiet 2) ∷ says (Put 0 1 12) (Old 11) ∷ says (Remove 0 1) (Old 12)
+    ∷ says (Put 0 1 13) New ∷ shows (GroupLine 0 1 1 1 phase.Open ∷ FreeLine 97 2 ∷ [])
+    ∷ turns (turn.Copied 1) ∷ turns (turn.Quiet 3) ∷ says (Put 0 1 14) (Old 13)
+    ∷ says (Put 0 4 40) New ∷ says (Get 0 2) NoValue ∷ turns (turn.Reclaimed 2 1)
+    ∷ shows (GroupLine 0 1 1 2 phase.Open ∷ FreeLine 98 3 ∷ []) ∷ says (Get 0 1) (Value 14) ∷ [])
+
+-- a record that is worn at Copying can be written once it is copied
+abbrev pub WornUntilCopied : Type 0
+WornUntilCopied = Plays (from_version 1152921504606846974)
+    ((says (Put 0 5 50) New ∷ turns_to_opened 0 1)
+    ++ (turns (turn.Installed 1) ∷ turns (turn.Quiet 2) ∷ says (Put 0 5 51) (Old 50)
+    ∷ says (Put 0 5 52) Worn ∷ turns (turn.Copied 1) ∷ says (Put 0 5 52) (Old 51)
+    ∷ says (Remove 0 5) Worn ∷ []))
+
+-- a barrier names the least of the callers that it waits for, in whichever order they are freed
+abbrev pub TheLeastHeldIsNamed : Type 0
+TheLeastHeldIsNamed = Plays (small 3 100 4 1)
+    (says (Hold 1) Held ∷ says (Hold 2) Held ∷ says (Put 0 5 50) New ∷ turns (turn.Frozen 0)
+    ∷ turns (turn.Waiting 1) ∷ says (Free 2) Freed ∷ turns (turn.Waiting 1) ∷ says (Free 1) Freed
+    ∷ turns (turn.Quiet 1) ∷ turns (turn.Opened 1) ∷ says (Hold 2) Held ∷ says (Hold 1) Held
+    ∷ turns (turn.Installed 1) ∷ turns (turn.Waiting 1) ∷ says (Free 1) Freed
+    ∷ turns (turn.Waiting 2) ∷ says (Free 2) Freed ∷ turns (turn.Quiet 2) ∷ [])

@@ -1,12 +1,13 @@
--- Replays of scans, worked out by hand: removed records, new buffers, lanes, and probes.
+-- Replays of scans, worked out by hand: removed records, new buffers, lanes and probes.
 use Rattle.std.specs.Prelude.{◌≡◌, [], ◌∷◌, ◌++◌}
 use Rattle.map_model.specs.declared.calls.Near.TheVariants.{Gap}
 use Rattle.word_layout.specs.Shape.{in_one_part}
-use Rattle.layout_model.specs.Line.{Put, Remove, Scan}
+use Rattle.layout_model.specs.Line.{Probes, Put, Remove, Scan}
 use Rattle.layout_model.specs.Scans.{near_from}
 use Rattle.layout_model.specs.Scripts.{Plays, Script, layout_after, puts, rebuild, removes, says, small}
 use Rattle.layout_model.specs.Scripts.{turns_from_install, turns_to_opened}
 use Rattle.layout_model.specs.Told.{End, New, Old, Row}
+use Rattle.layout_model.specs.Told as told
 
 -- scans pass over what was removed, and go on through the new buffer
 abbrev pub ScansMeanwhile : Type 0
@@ -30,3 +31,15 @@ GapsEndWithLanes =
     Plays (small 2 100 4 2) with_a_lane_of_a_removed_key
     × (near_from (in_one_part (small 2 100 4 2)) left 6 ≡ Gap 6)
     × (near_from (in_one_part (small 2 100 4 2)) left 7 ≡ Gap 18446744073709551615)
+
+-- a scan locates the key of each of its answers: that of each pair, and that of each stretch without pairs
+abbrev pub ScansAddProbes : Type 0
+ScansAddProbes = Plays (small 1 100 4 2)
+    ((says (Put 0 5 50) New ∷ says (Put 0 7 70) New ∷ rebuild 0 1 2 2 1)
+    ++ ((Scan 0 0 9, Row 5 50 ∷ Row 7 70 ∷ End 2 ∷ []) ∷ says (Probes 0) (told.Probes 5) ∷ []))
+
+-- so a scan has one answer more where a lane without pairs begins
+abbrev pub LanesAddProbes : Type 0
+LanesAddProbes = Plays (small 2 100 4 2)
+    (with_a_lane_of_a_removed_key
+    ++ ((Scan 0 0 9, Row 5 50 ∷ End 1 ∷ []) ∷ says (Probes 0) (told.Probes 4) ∷ []))

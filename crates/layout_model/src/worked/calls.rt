@@ -1,7 +1,8 @@
 //! Replays of calls on one group, worked out by hand. Each function is a law and does nothing.
 
 ghost use Rattle.layout_model.specs.WorkedCalls.{ArraysReviveNothing, CopiesRenewVersions, FrozenBeforeFull};
-ghost use Rattle.layout_model.specs.WorkedCalls.{HeldCallersCall, RemovedRowsWear, RowsComeBack, VersionsEnd};
+ghost use Rattle.layout_model.specs.WorkedCalls.{HeldCallersCall, RemovedRowsWear, RevivalsTakeNoRow};
+ghost use Rattle.layout_model.specs.WorkedCalls.{RowsComeBack, VersionsEnd, WornArraysGetRows};
 
 /// A caller that is held goes on calling, and a row that was removed is revived.
 pub fn held_callers_call()
@@ -36,4 +37,14 @@ pub fn frozen_before_full()
 /// The key of a removed record of an array gets a row beside it.
 pub fn arrays_revive_nothing()
     ensures { ArraysReviveNothing }
+{}
+
+/// The versions of a key begin anew beside its removed record in an array.
+pub fn worn_arrays_get_rows()
+    ensures { WornArraysGetRows }
+{}
+
+/// A removed row is revived where no row is free.
+pub fn revivals_take_no_row()
+    ensures { RevivalsTakeNoRow }
 {}
