@@ -41,7 +41,7 @@ one_of_two t u = go (nat_lt (length t) (length u))
 -- ---- passes that stay ----
 
 stays_same : (i : Index) (p : Pass) → IsPassOf i p → StaysAs i p p
-stays_same i p of = record { of = of; number = refl; known = refl; log = refl; spare = refl }
+stays_same i p of = record { of = of; number = refl; known = refl; log = refl; spare = refl; probes = refl }
 
 stays_still : (i : Index) (p q r : Pass) → StaysAs i p q → StaysAs i q r → StaysAs i p r
 stays_still i p q r first second =
@@ -51,6 +51,7 @@ stays_still i p q r first second =
       known = second.known ∙ first.known;
       log = second.log ∙ first.log;
       spare = second.spare ∙ first.spare;
+      probes = second.probes ∙ first.probes;
     }
 
 -- ---- one pass ----

@@ -66,13 +66,13 @@ pub new_know : (i : Index) (first : ℕ) (passes : List Pass) → AreNewPasses i
     AllKnow i [] first passes
 new_know i first [] new = tt
 new_know i first (p ∷ ps) new =
-    (record { of = new.0; number = new.1 }, new.2, new_know i (first + 1) ps new.4)
+    (record { of = new.0; number = new.1 }, new.2, new_know i (first + 1) ps new.5)
 
 pub new_logs : (i : Index) (first : ℕ) (passes : List Pass) → AreNewPasses i first passes →
     logs_of passes ≡ replicate (length passes) []
 new_logs i first [] new = refl
 new_logs i first (p ∷ ps) new =
-    let rest = new_logs i (first + 1) ps new.4 in
+    let rest = new_logs i (first + 1) ps new.5 in
     (λ j. new.3 j ∷ rest j)
 
 -- ---- one phase ----

@@ -1,5 +1,5 @@
 //! All phases of a trace, one after another.
-ghost use Rattle.std.specs.Prelude.{◌≡◌, ◌≤◌, IfOk, length, map};
+ghost use Rattle.std.specs.Prelude.{◌≡◌, ◌≤◌, [], IfOk, length, map};
 ghost use Rattle.index_machine.specs.Execution.{Execution};
 ghost use Rattle.xindex_core.specs.Closing.{ArePassesFrom};
 ghost use Rattle.xindex_core.specs.Naming.{IsNameOf};
@@ -42,7 +42,7 @@ pub fn run_phases<R, G: Gate + Send + Sync + 'static>(
 ) -> Result<Ran, AllocError>
 where
     R: Threads + Wait + Copy + Send + Sync + 'static,
-    requires { IsNewlyOpened (limits_of_index opened.index) opened }
+    requires { IsNewlyOpened (limits_of_index opened.index) [] opened }
     ensures { IfOk result (HasRun opened.index trace.now) }
 {
     run_named::<Brand, R, G>(rt, alloc, opened, trace, &*gate)
@@ -56,7 +56,7 @@ fn run_named<N: Name + Send + Sync, R: Threads + Wait + Copy + Sync, G: Gate + S
     trace: &Trace,
     gate: &G,
 ) -> Result<Ran, AllocError>
-    requires new { IsNewlyOpened (limits_of_index opened.index) opened }
+    requires new { IsNewlyOpened (limits_of_index opened.index) [] opened }
     requires name { IsNameOf N.table N.opening opened.index }
     ensures { IfOk result (HasRun opened.index trace.now) }
 {

@@ -42,7 +42,7 @@ use Rattle.index_laws.specs.Undisturbed.{IsAllBy, IsUndisturbed, OthersHoldNoLoc
 use Rattle.index_laws.specs.Undisturbed.{UndisturbedTriesEnd}
 use Rattle.index_laws.proofs.OwnEvents.{ContinuesAlone, before_first, moment_alone, part_alone}
 use Rattle.index_laws.proofs.OwnEvents.{unlocked_on}
-use Rattle.xindex_core.proofs.Trying.{get_since, put_since, remove_since}
+use Rattle.xindex_core.proofs.Inside.{get_since, put_since, remove_since}
 
 -- ---- words ----
 

@@ -1,5 +1,5 @@
 -- What a caller knows of a buffer after one step of its own, whatever the others did before it.
-use Rattle.std.proofs.Common.{◌≡◌, ℕ, inl, inr, true, false, ◌++◌}
+use Rattle.std.proofs.Common.{◌≡◌, ℕ, inr, true, ◌++◌}
 use Rattle.std.proofs.Common.{ap, ◌∙◌}
 use Rattle.word_layout.specs.Phase.{word_of_phase}
 use Rattle.index_machine.specs.declared.events.Action.{Action}
@@ -7,19 +7,11 @@ use Rattle.index_machine.specs.declared.events.Action.TheVariants.{LoadPhase}
 use Rattle.index_machine.specs.Execution.{Execution}
 use Rattle.index_machine.specs.Groups.{phase}
 use Rattle.index_machine.specs.Reaching.{stands_in}
-use Rattle.index_machine.specs.Conditions.{Valid}
-use Rattle.index_machine.specs.Openings.{opening_group}
-use Rattle.index_machine.specs.declared.opening.Opening.{Opening}
 use Rattle.machine_buffers.proofs.BegunLanes.{HasSameLanes, begun_on, has_same}
-use Rattle.machine_buffers.specs.Groups.{Begins, IsOfAKey}
-use Rattle.index_rule.specs.Built.{AreBuilt}
-use Rattle.index_rule.proofs.BuiltLaws.{groups_as_opened}
+use Rattle.machine_buffers.specs.Groups.{Begins}
 use Rattle.index_machine.specs.Lanes.{HasLane, begun_word}
-use Rattle.index_machine.specs.Represents.{has_stale_phase}
 use Rattle.index_machine.specs.Rows.{InBuffer, role}
 use Rattle.index_machine.specs.Sections.{IsCaller, IsNoCrossing}
-use Rattle.machine_buffers.proofs.Walks.{of_keys, true_of_keys}
-use Rattle.machine_buffers.specs.Walks.{IsWalkable}
 use Rattle.machine_readers.proofs.ReadSections.{place_on}
 use Rattle.index_rule.specs.declared.board.Board.{Board}
 use Rattle.index_rule.specs.declared.hand.Hand.{Hand}
@@ -65,14 +57,3 @@ pub phase_found : (b : Board) (h k : Hand) (g found : ℕ) → IsHandOf b h →
 phase_found b h k g found of m =
     ap (λ (t : Execution). word_of_phase (phase g t)) (known_is b h k (LoadPhase g found) of m)
     ∙ (valid_after b h k (LoadPhase g found) of m).0.says
-
--- while nothing is rebuilt, the group of a key at the opening answers for it, so its buffer is
--- walkable
-pub opened_walkable : (o : Opening) (t : Execution) → Valid o t → AreBuilt t → (j : ℕ) →
-    IsWalkable o (opening_group o j) t × (has_stale_phase (opening_group o j) t ≡ false)
-opened_walkable o t valid built j =
-    let answers : IsOfAKey o (opening_group o j) t =
-    inl (j, ((groups_as_opened o t built).0 j).0) in (
-      of_keys o t valid (opening_group o j) answers,
-      true_of_keys o t valid (opening_group o j) answers,
-    )

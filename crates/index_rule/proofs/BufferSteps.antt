@@ -446,7 +446,7 @@ module _ (o : Opening) (slots id : ℕ) (me : Me (Unit {0}) View) (c : ℕ)
   loads_head g lane a can is_lane there at =
       by_name o slots id me c is live (Header g (header.Head lane)) a (λ n. n) head_load there at
       (loads o slots id me c is live (Header g (header.Head lane)) (λ n. LoadHead g lane n) there
-      (λ _. tt) (λ _. refl)
+      (λ _. refl)
       (λ t valid newer e out.
       let before : Valid o (newer ++ me.0.known) = subst (Valid o) (sym e) valid in
       may_load_head o c g lane t valid
@@ -461,7 +461,7 @@ module _ (o : Opening) (slots id : ℕ) (me : Me (Unit {0}) View) (c : ℕ)
   loads_header g which a can there at =
       by_name o slots id me c is live (Header g which) a (λ n. n) header_load there at
       (loads o slots id me c is live (Header g which) (λ n. LoadHeader g which n) there
-      (λ _. tt) (λ _. refl)
+      (λ _. refl)
       (λ t valid newer e out. may_load_header o c g which t (subst (CanWalk o c g) e
       (walk_on o c g newer me.0.known (subst (Valid o) (sym e) valid) out can))))
 
@@ -474,7 +474,7 @@ module _ (o : Opening) (slots id : ℕ) (me : Me (Unit {0}) View) (c : ℕ)
       there at
       (subst (Tells o slots id me c is live (PlaceWord p part.Link) (λ n. n))
       (λ i n. sym (row_load_is o me.0 g p n live row) i)
-      (loads o slots id me c is live (PlaceWord p part.Link) (λ n. LoadLink g p n) there (λ _. tt)
+      (loads o slots id me c is live (PlaceWord p part.Link) (λ n. LoadLink g p n) there
       (λ _. refl)
       (λ t valid newer e out.
       let before : Valid o (newer ++ me.0.known) = subst (Valid o) (sym e) valid in
@@ -487,7 +487,7 @@ module _ (o : Opening) (slots id : ℕ) (me : Me (Unit {0}) View) (c : ℕ)
       Allows (Kept o) slots id me a (λ n. n) (λ n x. Does me (phase_load (word_in me.0 a) n) x)
   loads_phase g a can low at =
       by_name o slots id me c is live (Header g header.Phase) a (λ n. n) phase_load (low, tt) at
-      (loads o slots id me c is live (Header g header.Phase) (λ n. LoadPhase g n) (low, tt) (λ _. tt)
+      (loads o slots id me c is live (Header g header.Phase) (λ n. LoadPhase g n) (low, tt)
       (λ _. refl)
       (λ t valid newer e out. may_load_phase o c g t valid (subst (CanSeePhase o c g) e
       (sees_phase_on o c g newer me.0.known (subst (Valid o) (sym e) valid) out can))))
@@ -507,7 +507,7 @@ module _ (o : Opening) (slots id : ℕ) (me : Me (Unit {0}) View) (c : ℕ)
       (sym (failed_is o me.0 g lane before next n live rising into) i))
       (exchanges o slots id me c is live (link_behind g lane before) next p
       (LinkRow g lane p (inserted_by o c p me.0.known) before next)
-      (λ n. FailLink g lane before next n) there tt (λ _. tt) refl (λ _. refl)
+      (λ n. FailLink g lane before next n) there refl (λ _. refl)
       (λ t valid newer e out. (
         (λ hit. subst
             (λ (z : Execution). MayLink o z c g lane p (inserted_by o c p me.0.known) before next) e

@@ -37,7 +37,7 @@ module _ (o : Opening) (slots id : ℕ) (me : Me (Unit {0}) View) (c : ℕ)
       Allows (Kept o) slots id me a (λ n. n) (λ n x. Does me (next_load (word_in me.0 a) n) x)
   loads_next g a may there at =
       by_name o slots id me c is live (Header g header.Next) a (λ n. n) next_load there at
-      (loads o slots id me c is live (Header g header.Next) (λ n. LoadNext g n) there (λ _. tt)
+      (loads o slots id me c is live (Header g header.Next) (λ n. LoadNext g n) there
       (λ _. refl)
       (λ t valid newer e out. next_words o t valid c g (word o t (Header g header.Next))
       (subst (MayWalk o c g) e (walk_stays o c g newer me.0.known out may)) refl))

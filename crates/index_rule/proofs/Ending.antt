@@ -108,7 +108,6 @@ ended o id v hs ws xs of all f =
     record {
       execution = r.execution;
       valid = r.valid;
-      built = r.built;
       ends = ends_all o r.execution v hs k all;
       held = subst (λ (z : List ℕ). HoldsWords o z r.execution) f.2 r.words;
     }
@@ -156,7 +155,6 @@ leaves_gathered o hs words memory wide each left =
     record {
       execution = left.execution;
       valid = left.valid;
-      built = left.built;
       ends = left.ends;
       left = gathered-stands o words memory left.execution left.held spread wide;
     }

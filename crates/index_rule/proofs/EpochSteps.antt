@@ -29,7 +29,7 @@ module _ (o : Opening) (slots id : ℕ) (me : Me (Unit {0}) View) (c : ℕ)
       Allows (Kept o) slots id me a (λ n. n) (λ n x. Does me (epoch_load (word_in me.0 a) n) x)
   loads_epoch k a caller at =
       by_name o slots id me c is live (Epoch k) a (λ n. n) epoch_load caller at
-      (loads o slots id me c is live (Epoch k) (λ n. LoadEpoch k n) caller (λ _. tt) (λ _. refl)
+      (loads o slots id me c is live (Epoch k) (λ n. LoadEpoch k n) caller (λ _. refl)
       (λ t _ _ _ _. (caller, refl)))
 
   -- the events of others do not cross for the hand
@@ -43,7 +43,7 @@ module _ (o : Opening) (slots id : ℕ) (me : Me (Unit {0}) View) (c : ℕ)
   stores_enter a n may next at =
       subst (λ (z : ℕ). Allows (Kept o) slots id me z (λ _. n) (λ _ x. Does me (Enter n) x))
       (sym at)
-      (stores o slots id me c is live (Epoch c) n (Enter n) may.caller tt refl
+      (stores o slots id me c is live (Epoch c) n (Enter n) may.caller refl
       (λ t _ newer e out. let same = same_crossings t newer e out in (
         record {
           caller = may.caller;
@@ -58,7 +58,7 @@ module _ (o : Opening) (slots id : ℕ) (me : Me (Unit {0}) View) (c : ℕ)
   stores_leave a n may next at =
       subst (λ (z : ℕ). Allows (Kept o) slots id me z (λ _. n) (λ _ x. Does me (Leave n) x))
       (sym at)
-      (stores o slots id me c is live (Epoch c) n (Leave n) may.caller tt refl
+      (stores o slots id me c is live (Epoch c) n (Leave n) may.caller refl
       (λ t _ newer e out. let same = same_crossings t newer e out in (
         record {
           caller = may.caller;

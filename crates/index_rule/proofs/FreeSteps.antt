@@ -83,7 +83,7 @@ module _ (o : Opening) (slots id : ℕ) (me : Me (Unit {0}) View) (c : ℕ)
   loads_free a may at =
       subst (λ (z : ℕ). Allows (Kept o) slots id me z (λ n. n) (λ n x. Does me (LoadFree n) x))
       (sym at)
-      (loads o slots id me c is live FreeHead (λ n. LoadFree n) tt (λ _. tt) (λ _. refl)
+      (loads o slots id me c is live FreeHead (λ n. LoadFree n) tt (λ _. refl)
       (λ t _ newer e out. (
         ⊎_elim (λ (reading : IsReading o c me.0.known). inl (still_reading t newer e out reading))
             (λ (keeper : IsKeeper o c). inr keeper) may,
@@ -96,7 +96,7 @@ module _ (o : Opening) (slots id : ℕ) (me : Me (Unit {0}) View) (c : ℕ)
   loads_link place a reading seen row at =
       by_name o slots id me c is live (PlaceWord place Link) a (λ n. n) link_load (inl row) at
       (loads o slots id me c is live (PlaceWord place Link) (λ n. LoadFreeLink place n) (inl row)
-      (λ _. tt) (λ _. refl)
+      (λ _. refl)
       (λ t _ newer e out. (
         still_reading t newer e out reading,
         subst (IsObservedRow place) (sym (still_seen t newer e out)) seen,
@@ -112,8 +112,8 @@ module _ (o : Opening) (slots id : ℕ) (me : Me (Unit {0}) View) (c : ℕ)
       (λ (z : ℕ). Allows (Kept o) slots id me z (λ m. either (m == p) n m)
       (λ m x. Does me (cond (m == p) (PopFree p n) (FailPop p m)) x))
       (sym at)
-      (exchanges o slots id me c is live FreeHead p n (PopFree p n) (λ m. FailPop p m) tt tt
-      (λ _. tt) refl (λ _. refl)
+      (exchanges o slots id me c is live FreeHead p n (PopFree p n) (λ m. FailPop p m) tt
+      refl (λ _. refl)
       (λ t valid newer e out.
       let still = still_reading t newer e out reading in
       let now : observed_head c t ≡ HeadAndLink p n = still_seen t newer e out ∙ seen in
@@ -156,7 +156,7 @@ module _ (o : Opening) (slots id : ℕ) (me : Me (Unit {0}) View) (c : ℕ)
       by_name o slots id me c is live (PlaceWord place part) a (λ _. value)
       (λ w _. private_store w value) (inl row) at
       (stores o slots id me c is live (PlaceWord place part) value (StorePrivate place part value)
-      (inl row) tt refl
+      (inl row) refl
       (λ t valid newer e out. record {
         held = subst (Holds o c place) e
             (holds_on o c place newer me.0.known (subst (Valid o) (sym e) valid) out held);
@@ -173,8 +173,8 @@ module _ (o : Opening) (slots id : ℕ) (me : Me (Unit {0}) View) (c : ℕ)
       (λ (z : ℕ). Allows (Kept o) slots id me z (λ m. either (m == n) p m)
       (λ m x. Does me (cond (m == n) (PushFree p n) (FailPush p n m)) x))
       (sym at)
-      (exchanges o slots id me c is live FreeHead n p (PushFree p n) (λ m. FailPush p n m) tt tt
-      (λ _. tt) refl (λ _. refl)
+      (exchanges o slots id me c is live FreeHead n p (PushFree p n) (λ m. FailPush p n m) tt
+      refl (λ _. refl)
       (λ t valid newer e out.
       let before : Valid o (newer ++ me.0.known) = subst (Valid o) (sym e) valid in
       let now : Holds o c p t =

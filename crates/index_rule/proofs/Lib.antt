@@ -1,4 +1,3 @@
-pub mod BuiltLaws
 pub mod Logging
 pub mod Offsets
 pub mod Steps

@@ -14,17 +14,7 @@ use Rattle.index_machine.specs.Openings.{opening_map}
 use Rattle.index_machine.specs.LivePlaces.{history}
 use Rattle.index_machine.specs.RecordConditions.{IsChangeTo}
 use Rattle.index_machine.specs.Conditions.{Allowed, Valid}
-use Rattle.index_rule.specs.Built.{AreBuilt}
 use Rattle.index_rule.specs.Rule.{log_after}
-
--- ---- kinds of step ----
-
--- what was made before was made by such steps too
-pub built_before : (newer t : Execution) → AreBuilt (newer ++ t) → AreBuilt t
-built_before [] t built = built
-built_before (e ∷ newer) t built = built_before newer t built.1
-
--- ---- logs ----
 
 -- a change that a hand makes is by this hand
 by_maker : (hand : ℕ) (was removed : Bool) (value : ℕ) (d : Change) →

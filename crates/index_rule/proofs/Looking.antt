@@ -86,7 +86,7 @@ notes o slots id me a start key found moment live within value least s r _ at _ 
         is = refl;
         bare = refl;
         following = λ p of. merely (subst (λ (z : Opening). Follows z w)
-            (one_opening o p (sym live ∙ of)) (follows_of o r.execution w r.valid r.built knows));
+            (one_opening o p (sym live ∙ of)) (follows_of o r.execution w r.valid knows));
       },
     )
 

@@ -54,7 +54,6 @@ opens o memory holds =
     record {
       execution = [];
       valid = tt;
-      built = tt;
       words = holds;
       apart = λ i j c v w p q _ _.
           (only (first_view o) v i p).0 ∙ sym (only (first_view o) w j q).0;
@@ -106,7 +105,6 @@ new_following o c v is =
     subst IsFollowing (sym is)
     (λ p of. merely (record {
       valid = tt;
-      built = tt;
       logged = λ hand one. record { stand = tt; ordered = tt; complete = refl };
     }))
 

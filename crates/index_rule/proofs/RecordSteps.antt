@@ -293,7 +293,7 @@ module _ (o : Opening) (slots id : ℕ) (me : Me (Unit {0}) View) (c : ℕ)
       Allows (Kept o) slots id me a (λ n. n) (λ n x. Does me (state_load (word_in me.0 a) n) x)
   loads_state p a can is_place at =
       by_name o slots id me c is live (PlaceWord p State) a (λ n. n) state_load is_place at
-      (loads o slots id me c is live (PlaceWord p State) (λ n. LoadState p n) is_place (λ _. tt)
+      (loads o slots id me c is live (PlaceWord p State) (λ n. LoadState p n) is_place
       (λ _. refl)
       (λ t valid newer e out. may_load_state o c p t valid (seen_now t newer p valid e out can)))
 
@@ -302,7 +302,7 @@ module _ (o : Opening) (slots id : ℕ) (me : Me (Unit {0}) View) (c : ℕ)
       Allows (Kept o) slots id me a (λ n. n) (λ n x. Does me (value_load (word_in me.0 a) n) x)
   loads_value p a can is_place at =
       by_name o slots id me c is live (PlaceWord p Value) a (λ n. n) value_load is_place at
-      (loads o slots id me c is live (PlaceWord p Value) (λ n. LoadValue p n) is_place (λ _. tt)
+      (loads o slots id me c is live (PlaceWord p Value) (λ n. LoadValue p n) is_place
       (λ _. refl)
       (λ t valid newer e out. may_load_value o c p t valid (seen_now t newer p valid e out can)))
 
@@ -311,7 +311,7 @@ module _ (o : Opening) (slots id : ℕ) (me : Me (Unit {0}) View) (c : ℕ)
       Allows (Kept o) slots id me a (λ n. n) (λ n x. Does me (key_load (word_in me.0 a) n) x)
   loads_key p a can is_place at =
       by_name o slots id me c is live (PlaceWord p Key) a (λ n. n) key_load is_place at
-      (loads o slots id me c is live (PlaceWord p Key) (λ n. LoadKey p n) is_place (λ _. tt)
+      (loads o slots id me c is live (PlaceWord p Key) (λ n. LoadKey p n) is_place
       (λ _. refl)
       (λ t valid newer e out. may_load_key o c p t valid (seen_now t newer p valid e out can)))
 
@@ -324,7 +324,7 @@ module _ (o : Opening) (slots id : ℕ) (me : Me (Unit {0}) View) (c : ℕ)
       by_name o slots id me c is live (PlaceWord p State) a (λ n. either (n == x) y n)
       (λ w n. cond (n == x) (lock_made w x) (lock_failed w x n)) is_place here
       (exchanges o slots id me c is live (PlaceWord p State) x y (Lock p x)
-      (λ n. FailLock p x n) is_place tt (λ _. tt)
+      (λ n. FailLock p x n) is_place
       (ap (λ (z : ℕ). Some (store (PlaceWord p State) z)) (sym locked)) (λ _. refl)
       (λ t valid newer e out. let now = at_now t newer p valid e out at in (
         (λ hit. may_lock o c p x t valid now
@@ -339,7 +339,7 @@ module _ (o : Opening) (slots id : ℕ) (me : Me (Unit {0}) View) (c : ℕ)
   stores_value p a y at held is_place here =
       by_name o slots id me c is live (PlaceWord p Value) a (λ _. y) (λ w _. value_store w y)
       is_place here
-      (stores o slots id me c is live (PlaceWord p Value) y (StoreValue p y) is_place tt refl
+      (stores o slots id me c is live (PlaceWord p Value) y (StoreValue p y) is_place refl
       (λ t valid newer e out. let now = at_now t newer p valid e out at in (
         at.reading.caller,
         (
@@ -367,7 +367,7 @@ module _ (o : Opening) (slots id : ℕ) (me : Me (Unit {0}) View) (c : ℕ)
       (subst (λ (d : Action). Tells o slots id me c is live (PlaceWord p State) (λ _. word) (λ _. d))
       (sym (unlock_is o me.0 c p word removed is live says))
       (stores o slots id me c is live (PlaceWord p State) word
-      (Unlock p removed (change_by o c p removed me.0.known) word) is_place tt refl
+      (Unlock p removed (change_by o c p removed me.0.known) word) is_place refl
       (λ t valid newer e out.
       let before : Valid o (newer ++ me.0.known) = subst (Valid o) (sym e) valid in
       let held = may.holds.locked in

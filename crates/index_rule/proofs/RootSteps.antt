@@ -159,7 +159,7 @@ module _ (o : Opening) (slots id : ℕ) (me : Me (Unit {0}) View) (c : ℕ)
       Allows (Kept o) slots id me a (λ n. n) (λ n x. Does me (root_load (word_in me.0 a) n) x)
   loads_root part a may is_part at =
       by_name o slots id me c is live (Root part) a (λ n. n) root_load is_part at
-      (loads o slots id me c is live (Root part) (λ n. LoadRoot part n) is_part (λ _. tt) (λ _. refl)
+      (loads o slots id me c is live (Root part) (λ n. LoadRoot part n) is_part (λ _. refl)
       (λ t valid newer e out. record {
         allowed = ⊎_elim
             (λ (reading : IsReading o c me.0.known).
@@ -179,7 +179,7 @@ module _ (o : Opening) (slots id : ℕ) (me : Me (Unit {0}) View) (c : ℕ)
   loads_slot_group part side i a can is_word at =
       by_name o slots id me c is live (SlotGroup part side i) a (λ n. n) slot_group_load is_word at
       (loads o slots id me c is live (SlotGroup part side i) (λ n. LoadSlotGroup part side i n)
-      is_word (λ _. tt) (λ _. refl)
+      is_word (λ _. refl)
       (λ t valid newer e out. record {
         allowed = subst (MayReadSlot o c part side i) e
             (sees_on o c part side i newer me.0.known out can);
@@ -195,7 +195,7 @@ module _ (o : Opening) (slots id : ℕ) (me : Me (Unit {0}) View) (c : ℕ)
   loads_slot_pivot part side i a can is_word at =
       by_name o slots id me c is live (SlotPivot part side i) a (λ n. n) slot_pivot_load is_word at
       (loads o slots id me c is live (SlotPivot part side i) (λ n. LoadSlotPivot part side i n)
-      is_word (λ _. tt) (λ _. refl)
+      is_word (λ _. refl)
       (λ t valid newer e out. record {
         allowed = subst (MayReadSlot o c part side i) e
             (sees_on o c part side i newer me.0.known out can);

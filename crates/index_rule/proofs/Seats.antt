@@ -108,7 +108,6 @@ module _ (o : Opening) (id : ℕ) (v : View) (ls rs : List ℕ)
       record {
         execution = r.execution;
         valid = r.valid;
-        built = r.built;
         words = r.words;
         apart = apart_split s.views k.once r.apart at;
         known = λ i u p q. ⊎_elim
@@ -187,7 +186,6 @@ tells o id v of s r at =
     record {
       execution = r.execution;
       valid = r.valid;
-      built = r.built;
       words = r.words;
       apart = apart_told s.views id v r.apart at;
       known = λ i u p q. ⊎_elim
@@ -477,7 +475,6 @@ joins o id other v w of og s r at apart there0 =
     record {
       execution = r.execution;
       valid = r.valid;
-      built = r.built;
       words = r.words;
       apart = λ i j c u y p q ou oy. ⊎_elim
           (λ (a : spent ≡ u). absurd (subst (λ (z : View). Owns z c) (sym a) ou))

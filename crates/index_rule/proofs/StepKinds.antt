@@ -21,7 +21,6 @@ use Rattle.index_rule.specs.declared.board.Board.{Board}
 use Rattle.index_rule.specs.declared.view.View.{View}
 use Rattle.index_rule.specs.declared.hand.Hand.{Hand}
 use Rattle.index_rule.specs.Hands.{IsHandOf, Makes, opening_of, view}
-use Rattle.index_rule.specs.Built.{IsBuilt}
 use Rattle.index_rule.specs.Offsets.{address_at, cold_from, offset_count, offset_of}
 use Rattle.index_rule.specs.Offsets.{offset_of_word}
 use Rattle.index_rule.specs.Rule.{Acts, Kept, Does, word_in, word_of_opening}
@@ -94,39 +93,38 @@ module _ (o : Opening) (slots id : ℕ) (me : Me (Unit {0}) View) (c : ℕ)
       Without c newer → P t
 
   pub loads : (w : Word) (d : ℕ → Action) → IsWord (shape o) w →
-      ((n : ℕ) → IsBuilt (d n)) → ((n : ℕ) → store_of c (d n) ≡ None) →
+      ((n : ℕ) → store_of c (d n) ≡ None) →
       Whenever (λ t. Allowed o t c (d (word o t w))) → Tells w (λ n. n) d
-  loads w d is_word built none may =
+  loads w d is_word none may =
       acts o slots id me c w (λ n. n) d is_word is live
       (λ t valid newer e out. (
         may t valid newer e out,
-        built (word o t w),
         λ u. nothing o t c (d (word o t w)) w u (none (word o t w)),
       ))
 
   pub stores : (w : Word) (x : ℕ) (d : Action) → IsWord (shape o) w →
-      IsBuilt d → store_of c d ≡ Some (store w x) → Whenever (λ t. Allowed o t c d) →
+      store_of c d ≡ Some (store w x) → Whenever (λ t. Allowed o t c d) →
       Tells w (λ _. x) (λ _. d)
-  stores w x d is_word built some may =
+  stores w x d is_word some may =
       acts o slots id me c w (λ _. x) (λ _. d) is_word is live
-      (λ t valid newer e out. (may t valid newer e out, built, λ u. rw some refl))
+      (λ t valid newer e out. (may t valid newer e out, λ u. rw some refl))
 
   pub exchanges : (w : Word) (x y : ℕ) (d : Action) (e : ℕ → Action) → IsWord (shape o) w →
-      IsBuilt d → ((n : ℕ) → IsBuilt (e n)) → store_of c d ≡ Some (store w y) →
+      store_of c d ≡ Some (store w y) →
       ((n : ℕ) → store_of c (e n) ≡ None) →
       Whenever (λ t. (word o t w ≡ x → Allowed o t c d)
       × (x ≢ word o t w → Allowed o t c (e (word o t w)))) →
       Tells w (λ n. either (n == x) y n) (λ n. cond (n == x) d (e n))
-  exchanges w x y d e is_word built built_too some none may =
+  exchanges w x y d e is_word some none may =
       acts o slots id me c w (λ n. either (n == x) y n) (λ n. cond (n == x) d (e n)) is_word is live
       (λ t valid newer eq out.
       let n : ℕ = word o t w in
       let both = may t valid newer eq out in
       dite (ℕ_discrete n x)
-      (λ (hit : n ≡ x). rw (eq-eqb n x hit) ((both.0 hit, built, λ u. rw some refl)))
+      (λ (hit : n ≡ x). rw (eq-eqb n x hit) ((both.0 hit, λ u. rw some refl)))
       (λ (ne : n ≢ x).
       rw (ne_eqb n x ne)
-      ((both.1 (λ z. ne (sym z)), built_too n, λ u. nothing o t c (e n) w u (none n)))))
+      ((both.1 (λ z. ne (sym z)), λ u. nothing o t c (e n) w u (none n)))))
 
   -- the name of the word at its offset
   pub named : (w : Word) → IsWord (shape o) w → word_in me.0 (offset_of_word (shape o) w) ≡ w

@@ -26,7 +26,6 @@ use Rattle.index_rule.specs.declared.board.Board.{Board}
 use Rattle.index_rule.specs.declared.hand.Hand.{Hand}
 use Rattle.index_rule.specs.declared.view.View.{View}
 use Rattle.index_rule.specs.Hands.{IsHandOf, Makes, known, opening_of}
-use Rattle.index_rule.specs.Built.{AreBuilt}
 use Rattle.index_rule.specs.Rule.{first_of}
 
 -- an action by which no hand enters or leaves
@@ -52,9 +51,6 @@ module _ (b : Board) (h k : Hand) (action : Action) (of : IsHandOf b h)
 
   pub valid_known : Valid (opening_of b) (known k)
   valid_known = (m.acts.3 (opening_of b) of.opened).valid
-
-  pub built_known : AreBuilt (known k)
-  built_known = (m.acts.3 (opening_of b) of.opened).built
 
   -- ---- its read section ----
 

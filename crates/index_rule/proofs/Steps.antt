@@ -25,8 +25,7 @@ use Rattle.index_rule.specs.Offsets.{HoldsWords, offset_of_word}
 use Rattle.index_rule.specs.Rule.{Owns, GoesOn, Knows, AreApart}
 use Rattle.index_rule.specs.Rule.{Kept, Acts, Does, number, first_of, stepped, HasLog, Follows}
 use Rattle.index_rule.specs.Rule.{log_after, logged}
-use Rattle.index_rule.specs.Built.{IsBuilt, AreBuilt}
-use Rattle.index_rule.proofs.Logging.{built_before, log_on, log_more}
+use Rattle.index_rule.proofs.Logging.{log_on, log_more}
 use Rattle.index_rule.proofs.Offsets.{kept_at, stored_at}
 use Rattle.map_model.specs.Logs.{Log, IsLogOf}
 use Rattle.index_machine.specs.Openings.{opening_map}
@@ -72,12 +71,11 @@ goes_more e numbers known t others g =
 -- ---- a load that is no event ----
 
 -- what a seat that knows a beginning of the execution follows
-pub follows_of : (o : Opening) (t : Execution) (v : View) → Valid o t → AreBuilt t →
-    Knows o t v → Follows o v
-follows_of o t v valid built k =
+pub follows_of : (o : Opening) (t : Execution) (v : View) → Valid o t → Knows o t v →
+    Follows o v
+follows_of o t v valid k =
     record {
       valid = valid_before o k.goes_on.0 v.known (subst (Valid o) (sym k.goes_on.1) valid);
-      built = built_before k.goes_on.0 v.known (subst AreBuilt (sym k.goes_on.1) built);
       logged = k.logged;
     }
 
@@ -94,7 +92,6 @@ kept_with o s id a v w r at sub knows =
     record {
       execution = r.execution;
       valid = r.valid;
-      built = r.built;
       words = subst (λ (z : List ℕ). HoldsWords o z r.execution) (sym (set-get_or s.words a 0))
           r.words;
       apart = apart_set s.views id v w r.apart at sub;
@@ -134,13 +131,13 @@ holds_more o memory t c d w x is_word old stores =
 
 -- ---- any step ----
 
--- what a step at the word w owes, whatever the execution is by then: its condition, a kind that is
--- built, and that its event stores this
+-- what a step at the word w owes, whatever the execution is by then: its condition, and that its event
+-- stores this
 abbrev pub Owes : Opening → ℕ → View → Word → (ℕ → ℕ) → (ℕ → Action) → Type 0
 Owes o c v w f d =
     (t : Execution) → Valid o t → (newer : Execution) → newer ++ v.known ≡ t → Without c newer →
     let n : ℕ = word o t w in
-    Allowed o t c (d n) × IsBuilt (d n)
+    Allowed o t c (d n)
     × ((u : Word) →
     stored (store_of c (d n)) u (word o t u) ≡ cond (same_word w u) (f n) (word o t u))
 
@@ -269,8 +266,7 @@ acts o slots id me c w f d is_word is live owes s r _ at _ =
     record {
       execution = event c here ∷ t;
       valid = longer;
-      built = (own.1, r.built);
-      words = holds_more o s.words t c here w (f (word o t w)) is_word r.words own.2;
+      words = holds_more o s.words t c here w (f (word o t w)) is_word r.words own.1;
       apart = apart_set s.views id v after r.apart at (λ _ h. h);
       known = known_set o t here s.views id v after c after.log mine r.apart at k
           (ap (λ (z : Execution). record v { known = z; heard = []; log = after.log }) named) has
@@ -283,7 +279,6 @@ acts o slots id me c w f d is_word is live owes s r _ at _ =
       subst (λ (z : ℕ). Without z newer) (sym me_is) out,
       λ p of. subst (λ (z : Opening). Follows z after) (one_opening o p (sym live ∙ of)) (record {
         valid = subst (Valid o) (sym named) longer;
-        built = subst AreBuilt (sym named) (own.1, r.built);
         logged = has;
       }),
     )

@@ -54,7 +54,7 @@ settles o slots id me a live s r _ at _ =
         bare = refl;
         follows = λ p of. subst (λ (z : Opening). Follows z (settled v))
             (one_opening o p (sym live ∙ of))
-            (follows_of o r.execution (settled v) r.valid r.built knows);
+            (follows_of o r.execution (settled v) r.valid knows);
       },
     )
 

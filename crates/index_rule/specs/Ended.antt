@@ -9,7 +9,6 @@ use Rattle.index_rule.specs.declared.board.Board.{Board}
 use Rattle.index_rule.specs.declared.hand.Hand.{Hand}
 use Rattle.index_rule.specs.declared.view.View.{View}
 use Rattle.index_rule.specs.declared.view.Heard.{Heard}
-use Rattle.index_rule.specs.Built.{AreBuilt}
 use Rattle.index_rule.specs.Hands.{IsHandOf, opening_of, known, view}
 use Rattle.opened_table.specs.Laying.{StandsFor}
 use Rattle.index_rule.specs.Offsets.{HoldsWords}
@@ -36,11 +35,10 @@ abbrev pub EndsFor : List Hand → Execution → Type 0
 EndsFor [] t = Unit {0}
 EndsFor (h ∷ hs) t = ContinuesWithout h.number (known h) t × EndsFor hs t
 
--- the words are those that one whole execution leaves, of the kinds of step that are built
+-- the words are those that one whole execution leaves
 pub record Leaves (o : Opening) (hands : List Hand) (words : List ℕ) : Type 0 where
   pub execution : Execution
   pub valid : Valid o execution
-  pub built : AreBuilt execution
   pub ends : EndsFor hands execution
   pub left : StandsFor o words execution
 
@@ -48,7 +46,6 @@ pub record Leaves (o : Opening) (hands : List Hand) (words : List ℕ) : Type 0 
 pub record LeavesInMemory (o : Opening) (hands : List Hand) (memory : List ℕ) : Type 0 where
   pub execution : Execution
   pub valid : Valid o execution
-  pub built : AreBuilt execution
   pub ends : EndsFor hands execution
   pub held : HoldsWords o memory execution
 

@@ -1,5 +1,3 @@
-pub mod Built
-pub mod BuiltLaws
 pub mod Offsets
 pub mod Rule
 pub mod Steps

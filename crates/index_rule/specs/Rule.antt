@@ -21,7 +21,6 @@ use Rattle.index_machine.specs.Sections.{IsCaller, IsHand, crossings, crossings_
 use Rattle.index_machine.specs.Openings.{opening_map}
 use Rattle.index_machine.specs.LivePlaces.{history, value_in_map}
 use Rattle.index_machine.specs.Conditions.{Valid}
-use Rattle.index_rule.specs.Built.{AreBuilt}
 use Rattle.index_rule.specs.declared.view.View.{View}
 use Rattle.index_rule.specs.declared.view.Heard.{Heard}
 use Rattle.index_rule.specs.LockWords.{IsLockedWord, locked_word_after}
@@ -83,7 +82,6 @@ AreApart views =
 pub record Kept (o : Opening) (s : State (Unit {0}) View) : Type 0 where
   pub execution : Execution
   pub valid : Valid o execution
-  pub built : AreBuilt execution
   pub words : HoldsWords o s.words execution
   pub apart : AreApart s.views
   pub known : (id : ℕ) (v : View) → get_elem? s.views id ≡ some v → v.opening ≢ None →
@@ -148,11 +146,9 @@ stepped v action newer =
       log = logged v.opening (newer ++ v.known) action v.log;
     }
 
--- what the seat knows is a valid execution of the kinds that are built, and its log is that of its
--- hand
+-- what the seat knows is a valid execution, and its log is that of its hand
 pub record Follows (o : Opening) (v : View) : Type 0 where
   pub valid : Valid o v.known
-  pub built : AreBuilt v.known
   pub logged : HasLog o v
 
 -- the hand made this action, after events of others, and follows the table

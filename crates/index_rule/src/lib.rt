@@ -20,10 +20,7 @@ mod view;
 
 pub use board::Board;
 pub use hand::Hand;
-pub use laws::{
-    arrays_are_as_opened, groups_are_as_opened, keys_have_one_place_each, moments_lie_within,
-    no_place_forwards_yet, root_is_as_opened, rows_are_in_their_group,
-};
+pub use laws::moments_lie_within;
 pub use looks::Sight;
 pub use memory::offset_of;
 pub use note::Note;

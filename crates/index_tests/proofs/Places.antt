@@ -1,129 +1,60 @@
--- Where the rows of a board with one group stand, and how a caller comes to one.
-use Rattle.std.proofs.Common.{◌≡◌, ℕ, zero, suc, ◌+◌, ◌^◌, ◌<◌, ◌≤◌, Option, Some, cond, [], ◌∷◌, length}
-use Rattle.std.proofs.Common.{refl, ap, sym, ◌∙◌, inl, arith}
-use Rattle.std.specs.Prelude.{◌==◌}
-use Rattle.std.specs.List.{AllByRecursion}
-use Rattle.map_model.specs.Map.{Map}
-use Rattle.word_layout.specs.Addresses.{array_address}
-use Rattle.word_layout.specs.Shape.{Shape}
-use Rattle.index_machine.specs.declared.events.Action.TheVariants.{LoadRoot, LoadSlotGroup}
-use Rattle.index_machine.specs.KeyRanges.{group_of}
-use Rattle.index_machine.specs.OpeningPlan.{keys_for}
-use Rattle.index_machine.specs.OpeningRows.{index_behind, opening_group, row_from}
-use Rattle.index_machine.specs.Words.{limits, shape}
-use Rattle.index_machine.specs.Rows.{InArray, role, role_of_row}
-use Rattle.index_machine.proofs.Executions.{choice-same, choice-other}
-use Rattle.index_machine.proofs.OpeningKeys.{from_all, keys_for-same}
-use Rattle.index_machine.proofs.OpeningPlan.{opening_keys-fit}
-use Rattle.index_machine.proofs.OpeningRows.{opening_row-key}
+-- How a caller comes to the place that a key has in the array of its group.
+use Rattle.std.proofs.Common.{◌≡◌, ℕ, inl, inr, ⊎_elim, Some, ◌++◌, sym, subst}
+use Rattle.index_machine.specs.Conditions.{Valid}
+use Rattle.index_machine.specs.Execution.{Execution}
+use Rattle.index_machine.specs.KeyRanges.{group_of, predecessor}
+use Rattle.machine_buffers.specs.Groups.{IsKeyOf}
+use Rattle.machine_chain.proofs.Walking.{answers_while}
+use Rattle.machine_chain.specs.Walks.{AnswersFor}
 use Rattle.index_rule.specs.declared.board.Board.{Board}
 use Rattle.index_rule.specs.declared.hand.Hand.{Hand}
-use Rattle.index_rule.specs.Hands.{Makes, known, opening_of}
-use Rattle.index_rule.proofs.BuiltLaws.{arrays_as_opened, groups_as_opened}
-use Rattle.index_rule.proofs.RootStepping.{at_in_array}
-use Rattle.index_rule.proofs.Stepping.{built_known, valid_known}
+use Rattle.index_rule.specs.Hands.{IsHandOf, known, opening_of}
+use Rattle.root_table.specs.Finding.{FindsGroup}
+use Rattle.sorted_group.specs.Located.{IsPlaceOf, LoadsToLocate}
+use Rattle.sorted_group.specs.Standing.{CanSearch}
+use Rattle.sorted_group.proofs.ArraySearches.{locate_loads}
+use Rattle.sorted_group.proofs.BufferLoads.{GoesOnInside, loads_inside}
 use Rattle.record_cell.specs.Finding.{IsReadyAt}
-use Rattle.index_tests.specs.Boards.{HasOneGroup, IsInside}
-use Rattle.index_tests.specs.Records.{HasRow}
-use Rattle.index_tests.proofs.Groups.{in_group_slot, opening_group-zero}
+use Rattle.point_calls.proofs.ChainWay.{found_in}
+use Rattle.index_tests.specs.Boards.{IsInGroupOf}
 
--- the rows are all in group 0
-abbrev AreInZero : (ℕ → ℕ) → Map → Type 0
-AreInZero of rows = AllByRecursion (λ (r : ℕ × ℕ). of r.0 ≡ 0) rows
+-- over the loads by which a key is sought in the array the read section goes on
+pub located_inside : (b : Board) (g : ℕ) (h k : Hand) → IsHandOf b h → Valid (opening_of b) (known h) →
+    LoadsToLocate b g h k → GoesOnInside b h k
+located_inside b g h k of valid steps =
+    let loads = locate_loads b g h k steps in
+    loads_inside b g h k of valid loads.0 loads.1 loads.2
 
--- the first of these rows is there
-in_zero : (s : Shape) (of : ℕ → ℕ) (filled : ℕ) (q : ℕ × ℕ) (rows : Map) (place : ℕ) → of q.0 ≡ 0 →
-    row_from s of 0 filled (q ∷ rows) place
-    ≡ cond (array_address s 0 filled == place) (Some q) (row_from s of 0 (filled + 1) rows place)
-in_zero s of filled q rows place here =
-    ap (λ (group : ℕ). let i = index_behind 0 filled group in
-    cond (array_address s group i == place) (Some q) (row_from s of group (i + 1) rows place))
-    here
-
--- so group 0 has as many keys as there are rows
-keys_of_all : (of : ℕ → ℕ) (rows : Map) → AreInZero of rows → length (keys_for of 0 rows) ≡ length rows
-keys_of_all of [] all = refl
-keys_of_all of (r ∷ rows) all =
-    let more = keys_of_all of rows all.1 in
-    ap length (keys_for-same of 0 r rows all.0) ∙ omega (arith, more)
-
--- a row stands at its place of the array, where the array is filled so far
-row_at : (s : Shape) (of : ℕ → ℕ) (filled j : ℕ) (rows : Map) (place : ℕ) → AreInZero of rows → j < length rows →
-    place ≡ array_address s 0 (filled + j) →
-    (row : ℕ × ℕ) × (row_from s of 0 filled rows place ≡ Some row)
-row_at s of filled j [] place all below is = absurd (omega arith)
-row_at s of filled zero (q ∷ rows) place all below is =
-    let later : Option (ℕ × ℕ) = row_from s of 0 (filled + 1) rows place in
-    let same : array_address s 0 filled ≡ place = omega arith in (
-      q,
-      in_zero s of filled q rows place all.0
-          ∙ choice-same (array_address s 0 filled) place (Some q) later same,
-    )
-row_at s of filled (suc j) (q ∷ rows) place all below is =
-    behind (row_at s of (filled + 1) j rows place all.1 (omega arith) (omega arith))
-  where
-    later : Option (ℕ × ℕ)
-    later = row_from s of 0 (filled + 1) rows place
-
-    behind : (row : ℕ × ℕ) × (later ≡ Some row) →
-        (row : ℕ × ℕ) × (row_from s of 0 filled (q ∷ rows) place ≡ Some row)
-    behind found = (
-      found.0,
-      in_zero s of filled q rows place all.0
-          ∙ (choice-other (array_address s 0 filled) place (Some q) later (λ same. absurd (omega arith))
-          ∙ found.1),
-    )
-
--- the rows of the board are all in group 0
-all_in_zero : (b : Board) → HasOneGroup b → AreInZero (opening_group (opening_of b)) (opening_of b).rows
-all_in_zero b one =
+-- where the read section went on the group still answers for the key, or did
+pub answers_on : (b : Board) (g key : ℕ) (h k : Hand) → GoesOnInside b h k → CanSearch b g h →
+    AnswersFor (opening_of b) key g (known h) → AnswersFor (opening_of b) key g (known k)
+answers_on b g key h k on can answers =
     let o = opening_of b in
-    from_all (λ (r : ℕ × ℕ). r.0 < 2 ^ 64) (λ (r : ℕ × ℕ). opening_group o r.0 ≡ 0) o.rows
-    (λ r small. opening_group-zero b r.0 one (omega arith)) o.keys
+    let whole : Valid o (on.newer ++ known h) = subst (Valid o) (sym on.on) on.valid in
+    subst (λ (t : Execution). AnswersFor o key g t) on.on
+    (answers_while o h.number g key can.call.reading.caller on.newer (known h) whole on.stays can.stands answers)
 
--- so they are no more than its array has places
-pub rows_few : (b : Board) → HasOneGroup b → length (opening_of b).rows ≤ (limits (opening_of b)).group_size
-rows_few b one =
-    let o = opening_of b in
-    let all = keys_of_all (opening_group o) o.rows (all_in_zero b one) in
-    let few = opening_keys-fit o 0 in
-    omega (arith, all, few)
-
--- so the board has a row there
-pub has_row_at : (b : Board) (j place : ℕ) → HasOneGroup b → j < length (opening_of b).rows →
-    place ≡ array_address (shape (opening_of b)) 0 j → HasRow b place
-has_row_at b j place one below is =
-    let o = opening_of b in
-    let from : 0 + j ≡ j = omega arith in
-    row_at (shape o) (opening_group o) 0 j o.rows place (all_in_zero b one) below
-    (is ∙ ap (array_address (shape o) 0) (sym from))
-
--- a caller that came to group 0 is ready at the place of a row
-pub ready_at_row : (b : Board) (h r k : Hand) (number root group : ℕ) →
-    (inside : IsInside b number h) (loads : Makes b h (LoadRoot 0 root) r)
-    (names : Makes b r (LoadSlotGroup 0 0 0 group) k) (place : ℕ) → HasRow b place →
+-- a caller that came to the group of the key and located it is ready at its place
+pub ready_at : (b : Board) (number g key place : ℕ) (h m k : Hand) → IsHandOf b h → FindsGroup b key h g m →
+    IsInGroupOf b number g key m → LoadsToLocate b g m k → CanSearch b g k → IsPlaceOf b g key place k →
     IsReadyAt b k place
-ready_at_row b h r k number root group inside loads names place row =
+ready_at b number g key place h m k of finds there steps can is =
     let o = opening_of b in
-    let load = LoadSlotGroup 0 0 0 group in
-    let search = (in_group_slot b h r number root inside loads k group names).search in
-    let small = opening_row-key o place row.0.0 row.0.1 row.1 in
-    let zero = opening_group-zero b row.0.0 inside.one_group (omega arith) in
-    let built = built_known b r k load loads.of names in
-    let own : group_of o row.0.0 (known k) ≡ 0 = ((groups_as_opened o (known k) built).0 row.0.0).0 ∙ zero in
-    let placed : role o place (known k) ≡ InArray 0 row.0.0 =
-    (arrays_as_opened o (known k) (valid_known b r k load loads.of names) built 0 row.0.0 place).0
-    (ap (role_of_row o) row.1 ∙ ap (λ (group : ℕ). InArray group row.0.0) zero)
-    in
+    let valid : Valid o (known m) = (found_in b key h g m of finds).follows.valid in
+    let on = located_inside b g m k there.search.call.of valid steps in
+    let answers = answers_on b g key m k on there.search there.answers in
+    let of_key : IsKeyOf o g key (known k) =
+    ⊎_elim (λ (z : group_of o key (known k) ≡ g). inl (inl z))
+    (λ (z : predecessor o key (known k) ≡ Some g). inr z) answers in
     record {
-      of = names.of;
+      of = can.call.of;
       at_own = record {
-        there = at_in_array b k 0 row.0.0 place search.call.reading search.stands placed;
-        group = 0;
-        key = row.0.0;
-        stands = search.stands;
-        in_group = inl placed;
-        of_key = inl (inl own);
+        there = record { reading = can.call.reading; there = inl (g, key, is.role, can.stands) };
+        group = g;
+        key = key;
+        stands = can.stands;
+        in_group = inl is.role;
+        of_key = of_key;
       };
-      holds_none = search.call.holds_none;
+      holds_none = can.call.holds_none;
     }

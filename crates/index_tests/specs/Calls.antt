@@ -4,10 +4,9 @@ use Rattle.index_rule.specs.declared.board.Board.{Board}
 use Rattle.index_rule.specs.declared.hand.Hand.{Hand}
 use Rattle.index_rule.specs.declared.rows.PrivateRow.{PrivateRow}
 use Rattle.index_rule.specs.Calls.{CanCall}
-use Rattle.point_calls.specs.PointCalls.{HasSpare, OpensEmpty}
+use Rattle.point_calls.specs.PointCalls.{HasSpare}
 
--- the board was opened with no rows, and the hand may make a call, with this row of its own or none
+-- the hand may make a call, with this row of its own or none
 pub record CanAsk (b : Board) (h : Hand) (spare : Option PrivateRow) : Type 0 where
-  pub empty : OpensEmpty b
   pub call : CanCall b h
   pub row : HasSpare b h spare

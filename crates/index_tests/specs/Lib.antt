@@ -1,4 +1,3 @@
 pub mod Boards
-pub mod Records
 pub mod Buffers
 pub mod Calls

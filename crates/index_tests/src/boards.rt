@@ -1,5 +1,5 @@
 //! The boards and hands that the tests stand on.
-ghost use Rattle.std.specs.Prelude.{◌≡◌, ◌+◌, ◌*◌, ◌≤◌, length};
+ghost use Rattle.std.specs.Prelude.{◌≡◌, ◌+◌, ◌*◌, ◌≤◌, [], length};
 ghost use Rattle.std.specs.Vec.Iter.{into_iter_items};
 ghost use Rattle.map_model.specs.Map.{IsRising};
 ghost use Rattle.rebuild_plan.specs.Plan.{fill_limit};
@@ -8,9 +8,12 @@ ghost use Rattle.index_machine.specs.Sections.{IsCaller};
 ghost use Rattle.index_machine.specs.Words.{limits};
 ghost use Rattle.index_rule.specs.Hands.{known, opening_of};
 ghost use Rattle.index_rule.specs.Opened.{AreNewHands};
-ghost use Rattle.index_tests.specs.Boards.{HasOneGroup, IsInside, IsNewBoard, Rests, RestsWithNoRow};
+ghost use Rattle.root_table.specs.Finding.{FindsGroup};
+ghost use Rattle.index_tests.specs.Boards.{HasOneGroup, IsInGroupOf, IsInside, IsNewBoard};
+ghost use Rattle.index_tests.specs.Boards.{Rests, RestsWithNoRow};
 
 use index_rule::{Board, Hand};
+use root_table::group_for;
 use std::alloc::Global;
 use std::process::Abort;
 use std::vec::IntoIter;
@@ -57,9 +60,9 @@ pub(crate) fn next_hand(
     _number: u32,
     hands: &mut IntoIter<Hand>,
 ) -> Hand
-    requires one_group { HasOneGroup _board.now }
     requires hands { AreNewHands _board.now _number (into_iter_items hands.old) }
     ensures rests { RestsWithNoRow _board.now _number result }
+    ensures new { known result ≡ [] }
     ensures others { AreNewHands _board.now (_number + 1) (into_iter_items hands.new) }
 {
     match hands.next() {
@@ -79,6 +82,15 @@ pub(crate) fn enter(board: &Board, _number: u32, hand: &mut Hand)
     reader_epochs::enter(board, hand);
 }
 
+/// The caller comes to the group of the key, by the root.
+pub(crate) fn come_to(board: &Board, _number: u32, hand: &mut Hand, key: u64) -> u32
+    requires { IsInside board.now _number hand.old }
+    ensures there { IsInGroupOf board.now _number result key hand.new }
+    ensures steps { FindsGroup board.now key hand.old result hand.new }
+{
+    group_for(board, hand, key)
+}
+
 /// The caller leaves its read section.
 pub(crate) fn leave(board: &Board, _number: u32, hand: &mut Hand)
     requires { IsInside board.now _number hand.old }
@@ -95,6 +107,7 @@ pub(crate) fn closed(
     callers: (Hand, Hand, Hand),
     keeper: Hand,
 ) -> Vec<u64>
+    requires one_group { HasOneGroup board }
     requires callers { (limits (opening_of board)).callers ≡ 3 }
     requires first { Rests board 0 callers.0 }
     requires second { Rests board 1 callers.1 }

@@ -41,8 +41,8 @@ pub(crate) fn remove(
     assert_eq!(rt; pass.try_remove(index, key), Tried::Done(old));
 }
 
-// The index of two callers is closed, and this is what it had.
-fn pairs_of(
+/// The index of two callers is closed, and this is what it had.
+pub(crate) fn pairs_of(
     rt: &impl Abort,
     alloc: Global,
     index: Index,

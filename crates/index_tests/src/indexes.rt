@@ -1,5 +1,5 @@
 //! The indexes and passes that the tests stand on.
-ghost use Rattle.std.specs.Prelude.{◌+◌};
+ghost use Rattle.std.specs.Prelude.{◌+◌, []};
 ghost use Rattle.std.specs.Vec.Iter.{into_iter_items};
 ghost use Rattle.xindex_core.specs.OneOrder.{IsPassOfCaller};
 ghost use Rattle.xindex_core.specs.Opened.{IsNewlyOpened};
@@ -11,9 +11,9 @@ use std::vec::IntoIter;
 use word_layout::Limits;
 use xindex_core::{Index, Keeper, Opened, Pass};
 
-/// A new index with these limits.
+/// A new index with these limits, which is empty.
 pub(crate) fn opened_index(rt: &impl Abort, alloc: Global, limits: Limits) -> Opened
-    ensures { IsNewlyOpened limits result }
+    ensures { IsNewlyOpened limits [] result }
 {
     let Ok(opened) = Index::open(alloc, limits, &[]) else {
         panic!(rt; "the limits are kept, and there is memory");
@@ -38,7 +38,7 @@ pub(crate) fn next_pass(
     }
 }
 
-/// A new index, with the passes of its first two callers, and its keeper.
+/// A new index, which is empty, with the passes of its first two callers, and its keeper.
 pub(crate) fn opened_for_two(
     rt: &impl Abort,
     alloc: Global,

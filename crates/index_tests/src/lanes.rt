@@ -4,17 +4,16 @@ ghost use Rattle.map_model.specs.Map.{IsRising};
 ghost use Rattle.rebuild_plan.specs.Plan.{fill_limit};
 ghost use Rattle.index_machine.specs.Sections.{IsCaller};
 ghost use Rattle.index_rule.specs.Hands.{opening_of};
-ghost use Rattle.index_tests.specs.Boards.{Rests, RestsWithNoRow};
-ghost use Rattle.index_tests.specs.Buffers.{IsInGroup};
+ghost use Rattle.index_tests.specs.Boards.{IsInside, Rests, RestsWithNoRow};
 
-use crate::boards::{SMALL, assert_words, closed, next_hand, opened};
+use crate::boards::{SMALL, assert_words, closed, come_to, enter, leave, next_hand, opened};
 use crate::buffers::{
-    VALUE, assert_finds, assert_first, count_of_caller, enter_group, enter_to_link, find_gap,
-    lane_of, leave_group, link_at, link_row,
+    VALUE, assert_finds, assert_first, come_to_lane, count_of_caller, enter_to_link, find_gap,
+    link_at, link_row,
 };
 use delta_buffer::Found;
 use index_rule::{Board, Hand};
-use sorted_group::lanes;
+use sorted_group::{lane_end, lanes};
 use std::alloc::Global;
 use std::process::Abort;
 use std::thread;
@@ -39,17 +38,47 @@ const NINE: [(u64, u64); 9] = [
     (9, 0),
 ];
 
-// Asserts how many lanes the buffer of group 0 has, and which are their least keys.
-fn assert_lanes(rt: &impl Abort, board: &Board, _number: u32, hand: &mut Hand, cuts: &[u64])
-    requires { IsInGroup board.now _number hand.old }
-    ensures { IsInGroup board.now _number hand.new }
+// Asserts how many lanes the buffer of the first group has, and which are their least keys.
+fn assert_lanes(rt: &impl Abort, board: &Board, number: u32, hand: &mut Hand, cuts: &[u64])
+    requires { IsInside board.now number hand.old }
+    ensures { IsInside board.now number hand.new }
 {
-    let many = lanes(board, hand, 0);
+    let group = come_to(board, number, hand, 0);
+    let many = lanes(board, hand, group);
     assert_eq!(rt; many as usize, cuts.len());
     for lane in 0..many {
-        let cut = board.load_header(hand, 0, HeaderWord::Cut { lane });
+        let cut = board.load_header(hand, group, HeaderWord::Cut { lane });
         assert_eq!(rt; Some(&cut), cuts.get(lane as usize), "of lane {lane}");
     }
+}
+
+// Asserts which is the greatest key of the lane that has a key.
+fn assert_lane_ends(
+    rt: &impl Abort,
+    board: &Board,
+    number: u32,
+    hand: &mut Hand,
+    key: u64,
+    expected: u64,
+)
+    requires { IsInside board.now number hand.old }
+    ensures { IsInside board.now number hand.new }
+{
+    let lane = come_to_lane(board, number, hand, key);
+    assert_eq!(rt; lane_end(board, hand, lane, u64::MAX), expected, "of {key}");
+}
+
+#[test]
+fn a_lane_ends_before_the_next_one_and_the_last_with_the_group(rt: HostRuntime) {
+    let (board, mut hands) = opened(&rt, rt.alloc(), SMALL, &ROWS);
+    let mut hand = next_hand(&rt, &board, 0, &mut hands);
+    enter(&board, 0, &mut hand);
+    assert_lane_ends(&rt, &board, 0, &mut hand, 0, 19);
+    assert_lane_ends(&rt, &board, 0, &mut hand, 19, 19);
+    assert_lane_ends(&rt, &board, 0, &mut hand, 20, 29);
+    assert_lane_ends(&rt, &board, 0, &mut hand, 59, 59);
+    assert_lane_ends(&rt, &board, 0, &mut hand, 60, u64::MAX);
+    assert_lane_ends(&rt, &board, 0, &mut hand, u64::MAX, u64::MAX);
 }
 
 // Asserts which are the least keys of the lanes of a board with these rows.
@@ -66,7 +95,7 @@ fn assert_lanes_of(
 {
     let (board, mut hands) = opened(rt, alloc, limits, rows);
     let mut hand = next_hand(rt, &board, 0, &mut hands);
-    enter_group(&board, 0, &mut hand);
+    enter(&board, 0, &mut hand);
     assert_lanes(rt, &board, 0, &mut hand, cuts);
 }
 
@@ -93,8 +122,8 @@ fn assert_only_in(
     lane: u32,
     place: u32,
 )
-    requires { IsInGroup board.now number hand.old }
-    ensures { IsInGroup board.now number hand.new }
+    requires { IsInside board.now number hand.old }
+    ensures { IsInside board.now number hand.new }
 {
     for (i, cut) in CUTS.iter().enumerate() {
         let expected = if i == lane as usize {
@@ -109,16 +138,15 @@ fn assert_only_in(
 // The caller links a row for the key, which is met in this lane alone, and leaves.
 fn link_and_look(rt: &impl Abort, board: &Board, number: u32, hand: &mut Hand, key: u64, lane: u32)
     requires caller { IsCaller (opening_of board.now) number }
-    requires rows { (opening_of board.now).rows ≡ ROWS }
     requires rests { RestsWithNoRow board.now number hand.old }
     ensures { Rests board.now number hand.new }
 {
-    let place = link_row(rt, board, &ROWS, number, hand, key);
-    assert_eq!(rt; lane_of(board, number, hand, key), lane);
+    let place = link_row(rt, board, number, hand, key);
+    assert_eq!(rt; come_to_lane(board, number, hand, key).number, lane);
     assert_finds(rt, board, number, hand, key, Found::Row(place));
     assert_only_in(rt, board, number, hand, lane, place);
     assert_eq!(rt; count_of_caller(board, number, hand), 1);
-    leave_group(board, number, hand);
+    leave(board, number, hand);
 }
 
 #[test]
@@ -153,20 +181,19 @@ fn link_after_another(
     keys: (u64, u64),
 ) -> Option<u64>
     requires callers { IsCaller (opening_of board.now) 1 }
-    requires rows { (opening_of board.now).rows ≡ ROWS }
     requires first { RestsWithNoRow board.now 0 first.old }
     requires second { RestsWithNoRow board.now 1 second.old }
     ensures first { Rests board.now 0 first.new }
     ensures second { Rests board.now 1 second.new }
 {
-    let row = enter_to_link(rt, board, &ROWS, 0, first, keys.0);
-    let other = enter_to_link(rt, board, &ROWS, 1, second, keys.1);
-    let gap = find_gap(rt, board, 0, first, keys.0, &row);
-    let other_gap = find_gap(rt, board, 1, second, keys.1, &other);
+    let (group, row) = enter_to_link(rt, board, 0, first, keys.0);
+    let (other_group, other) = enter_to_link(rt, board, 1, second, keys.1);
+    let gap = find_gap(rt, board, 0, first, group, keys.0, &row);
+    let other_gap = find_gap(rt, board, 1, second, other_group, keys.1, &other);
     assert_eq!(rt; link_at(board, 0, first, gap, row), None);
     let found = link_at(board, 1, second, other_gap, other);
-    leave_group(board, 0, first);
-    leave_group(board, 1, second);
+    leave(board, 0, first);
+    leave(board, 1, second);
     found
 }
 
@@ -193,12 +220,11 @@ fn rows_of_two_lanes_are_linked_whatever_the_other_caller_did(rt: HostRuntime) {
 // The caller links a row for the key at once, and leaves.
 fn visit(rt: &impl Abort, board: &Board, number: u32, mut hand: Hand, key: u64) -> (Hand, u32)
     requires caller { IsCaller (opening_of board.now) number }
-    requires rows { (opening_of board.now).rows ≡ ROWS }
     requires rests { RestsWithNoRow board.now number hand }
     ensures { Rests board.now number result.0 }
 {
-    let place = link_row(rt, board, &ROWS, number, &mut hand, key);
-    leave_group(board, number, &mut hand);
+    let place = link_row(rt, board, number, &mut hand, key);
+    leave(board, number, &mut hand);
     (hand, place)
 }
 
@@ -214,13 +240,11 @@ fn callers_at_once_do_not_meet_in_lanes_of_their_own(rt: HostRuntime) {
         &rt,
         || -> (Hand, u32)
             requires caller { IsCaller (opening_of shared.now) 0 }
-            requires rows { (opening_of shared.now).rows ≡ ROWS }
             requires rests { RestsWithNoRow shared.now 0 first }
             ensures { Rests shared.entry.now 0 result.0 }
         { visit(&rt, shared, 0, first, 25) },
         || -> (Hand, u32)
             requires caller { IsCaller (opening_of shared.now) 1 }
-            requires rows { (opening_of shared.now).rows ≡ ROWS }
             requires rests { RestsWithNoRow shared.now 1 second }
             ensures { Rests shared.entry.now 1 result.0 }
         { visit(&rt, shared, 1, second, 45) },

@@ -5,11 +5,15 @@
 #![tactic(auto)]
 
 #[cfg(test)]
+mod arrays;
+#[cfg(test)]
 mod barriers;
 #[cfg(test)]
 mod boards;
 #[cfg(test)]
 mod buffers;
+#[cfg(test)]
+mod called_rows;
 #[cfg(test)]
 mod calls_for_keys;
 #[cfg(test)]
@@ -26,6 +30,8 @@ mod hand_notes;
 mod indexes;
 #[cfg(test)]
 mod lanes;
+#[cfg(test)]
+mod opened_rows;
 #[cfg(test)]
 mod orders_of_one_key;
 #[cfg(test)]

@@ -1,5 +1,5 @@
 //! An index of several parts has the keys of all of them, and a caller comes to each by the root of its part.
-ghost use Rattle.std.specs.Prelude.{◌≡◌, length};
+ghost use Rattle.std.specs.Prelude.{◌≡◌, [], length};
 ghost use Rattle.word_layout.specs.Parts.{part_count};
 ghost use Rattle.index_rule.specs.Calls.{CanCall};
 ghost use Rattle.index_rule.specs.Opened.{AreNewHands};
@@ -30,9 +30,9 @@ const FOR_TWO: Limits = Limits {
 
 // ---- an index of several parts ----
 
-// A new index with these limits and parts.
+// A new index with these limits and parts, which is empty.
 fn opened_in(rt: &impl Abort, alloc: Global, limits: Limits, parts: Parts) -> OpenedParts
-    ensures { IsNewlyOpenedIn limits parts result }
+    ensures { IsNewlyOpenedIn limits parts [] result }
 {
     let Ok(opened) = Index::open_in(alloc, limits, parts, &[]) else {
         panic!(rt; "the limits are kept, and there is memory");
@@ -115,8 +115,8 @@ fn limits_are_refused_that_need_too_many_words_for_two_parts(rt: HostRuntime) {
 
 // ---- it is closed ----
 
-// The index of two callers is closed, and this is what it had.
-fn pairs_of(
+/// The index of two callers is closed, and this is what it had.
+pub(crate) fn pairs_of_parts(
     rt: &impl Abort,
     alloc: Global,
     index: Index,
@@ -155,7 +155,7 @@ fn closing_gives_the_rows_of_both_parts_by_rising_key(rt: HostRuntime) -> Result
     put(&rt, &index, 1, &mut second, (BOUND - 1, 9), None);
     put(&rt, &index, 1, &mut second, (u64::MAX, 1), None);
     remove(&rt, &index, 1, &mut second, 5, Some(50));
-    let pairs = pairs_of(&rt, rt.alloc(), index, (first, second), keepers)?;
+    let pairs = pairs_of_parts(&rt, rt.alloc(), index, (first, second), keepers)?;
     let expected = [(99, 9), (100, 10), (150, 15), (u64::MAX, 1)];
     assert_eq!(rt; pairs.as_slice(), &expected[..]);
     Ok(())
@@ -180,13 +180,11 @@ fn first_inside(rt: &impl Abort, board: &Board, hands: Vec<Hand>) -> Hand
 }
 
 // The group to which the caller comes by the root of the key's part.
-fn group_for(board: &Board, hand: &mut Hand, key: u64) -> u64
+fn group_for(board: &Board, hand: &mut Hand, key: u64) -> u32
     requires { CanCall board.now hand.old }
     ensures { CanCall board.now hand.new }
 {
-    let part = board.part_of(key);
-    board.load_root(hand, part);
-    board.load_slot_group(hand, part, 0, 0)
+    root_table::group_for(board, hand, key)
 }
 
 #[test]
@@ -223,8 +221,8 @@ const WIDE: Limits = Limits {
     ..SMALL
 };
 
-// More rows than two groups are given.
-const THIRTEEN: [(u64, u64); 13] = [
+/// More rows than two groups are given.
+pub(crate) const THIRTEEN: [(u64, u64); 13] = [
     (10, 1),
     (20, 2),
     (30, 3),

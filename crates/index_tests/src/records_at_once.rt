@@ -3,15 +3,16 @@ ghost use Rattle.std.specs.Prelude.{◌≡◌, ◌<◌};
 ghost use Rattle.index_machine.specs.Sections.{IsCaller};
 ghost use Rattle.index_rule.specs.Hands.{opening_of};
 ghost use Rattle.record_cell.specs.Finding.{IsReadyAt};
+ghost use Rattle.index_machine.specs.Words.{limits};
 ghost use Rattle.index_tests.specs.Boards.{Rests};
-ghost use Rattle.index_tests.specs.Records.{HasRow, IsOfThree};
 
 use crate::boards::{SMALL, assert_words, closed, next_hand, opened};
-use crate::records::{ROWS, enter_at, place_of};
+use crate::records::{ROWS, enter_at};
 use crate::values_in_turn::{Seen, Step, chain_of, changes_of, goes_forward, left_by};
 use index_rule::{Board, Hand};
 use record_cell::{Read, Wrote, kill, read, update};
 use std::alloc::{AllocError, Global};
+use std::process::Abort;
 use std::test::Fail;
 use std::thread;
 use std::thread::Threads;
@@ -92,14 +93,20 @@ fn answered(board: &Board, hand: &mut Hand, place: u32, call: Call) -> Option<St
     }
 }
 
-// The caller enters, makes the call, and leaves.
-fn visited(board: &Board, caller: u32, hand: &mut Hand, place: u32, call: Call) -> Option<Step>
+// The caller enters, makes the call for a key, and leaves.
+fn visited(
+    rt: &impl Abort,
+    board: &Board,
+    caller: u32,
+    hand: &mut Hand,
+    key: u64,
+    call: Call,
+) -> Option<Step>
     requires caller { IsCaller (opening_of board.now) caller }
-    requires row { HasRow board.now place }
     requires rests { Rests board.now caller hand.old }
     ensures { Rests board.now caller hand.new }
 {
-    enter_at(board, caller, hand, place);
+    let place = enter_at(rt, board, caller, hand, key);
     let step = answered(board, hand, place, call);
     board.store_leave(hand);
     step
@@ -107,12 +114,13 @@ fn visited(board: &Board, caller: u32, hand: &mut Hand, place: u32, call: Call) 
 
 // The caller makes its calls, one after another.
 fn visits(
+    rt: &impl Abort,
     board: &Board,
     alloc: Global,
     caller: u32,
     hand: &mut Hand,
 ) -> Result<Vec<Seen>, AllocError>
-    requires three { IsOfThree board.now }
+    requires three { (limits (opening_of board.now)).callers ≡ 3 }
     requires caller { caller < 3 }
     requires rests { Rests board.now caller hand.old }
     ensures { Rests board.now caller hand.new }
@@ -120,9 +128,8 @@ fn visits(
     let mut seen = Vec::new(alloc);
     for round in 0..ROUNDS {
         let key = key_of(caller, round);
-        let place = place_of(board, key);
         let call = call_of(caller, round);
-        if let Some(step) = visited(board, caller, hand, place, call) {
+        if let Some(step) = visited(rt, board, caller, hand, u64::from(5 + key), call) {
             seen.push(Seen { caller, key, step })?;
         }
     }
@@ -133,24 +140,24 @@ fn visits(
 type Visit = (Hand, Result<Vec<Seen>, AllocError>);
 
 // The caller with this hand makes its calls.
-fn visit(board: &Board, alloc: Global, caller: u32, mut hand: Hand) -> Visit
-    requires three { IsOfThree board.now }
+fn visit(rt: &impl Abort, board: &Board, alloc: Global, caller: u32, mut hand: Hand) -> Visit
+    requires three { (limits (opening_of board.now)).callers ≡ 3 }
     requires caller { caller < 3 }
     requires rests { Rests board.now caller hand }
     ensures { Rests board.now caller result.0 }
 {
-    let seen = visits(board, alloc, caller, &mut hand);
+    let seen = visits(rt, board, alloc, caller, &mut hand);
     (hand, seen)
 }
 
 // All three callers at once, each in a thread of its own where one can be made.
-fn visit_at_once<R: Threads>(
+fn visit_at_once<R: Threads + Abort + Sync>(
     rt: &R,
     board: &Board,
     alloc: Global,
     callers: (Hand, Hand, Hand),
 ) -> (Visit, (Visit, Visit))
-    requires three { IsOfThree board.now }
+    requires three { (limits (opening_of board.now)).callers ≡ 3 }
     requires first { Rests board.now 0 callers.0 }
     requires second { Rests board.now 1 callers.1 }
     requires third { Rests board.now 2 callers.2 }
@@ -162,12 +169,12 @@ fn visit_at_once<R: Threads>(
     thread::join(
         rt,
         move || -> Visit
-            requires three { IsOfThree board.now }
+            requires three { (limits (opening_of board.now)).callers ≡ 3 }
             requires rests { Rests board.now 0 first }
             ensures { Rests board.entry.now 0 result.0 }
-        { visit(board, alloc, 0, first) },
+        { visit(rt, board, alloc, 0, first) },
         move || -> (Visit, Visit)
-            requires three { IsOfThree board.now }
+            requires three { (limits (opening_of board.now)).callers ≡ 3 }
             requires second { Rests board.now 1 second }
             requires third { Rests board.now 2 third }
             ensures second { Rests board.entry.now 1 result.0.0 }
@@ -176,15 +183,15 @@ fn visit_at_once<R: Threads>(
             thread::join(
                 rt,
                 move || -> Visit
-                    requires three { IsOfThree board.now }
+                    requires three { (limits (opening_of board.now)).callers ≡ 3 }
                     requires rests { Rests board.now 1 second }
                     ensures { Rests board.entry.now 1 result.0 }
-                { visit(board, alloc, 1, second) },
+                { visit(rt, board, alloc, 1, second) },
                 move || -> Visit
-                    requires three { IsOfThree board.now }
+                    requires three { (limits (opening_of board.now)).callers ≡ 3 }
                     requires rests { Rests board.now 2 third }
                     ensures { Rests board.entry.now 2 result.0 }
-                { visit(board, alloc, 2, third) },
+                { visit(rt, board, alloc, 2, third) },
             )
         },
     )
@@ -197,18 +204,13 @@ fn changes_of_a_key_have_one_order(rt: HostRuntime) -> Result<(), Fail> {
     let second = next_hand(&rt, &board, 1, &mut hands);
     let third = next_hand(&rt, &board, 2, &mut hands);
     let keeper = next_hand(&rt, &board, 3, &mut hands);
-    let places = [
-        place_of(&board, 0),
-        place_of(&board, 1),
-        place_of(&board, 2),
-    ];
     let callers = (first, second, third);
     let ((first, a), ((second, b), (third, c))) = visit_at_once(&rt, &board, rt.alloc(), callers);
     let words = closed(&rt, rt.alloc(), board, (first, second, third), keeper);
     let mut seen = a?;
     seen.extend_from_slice(b?.as_slice())?;
     seen.extend_from_slice(c?.as_slice())?;
-    for key in 0..3u32 {
+    for (key, from) in [(0u32, 33), (1, 37), (2, 41)] {
         let chain = chain_of(rt.alloc(), seen.as_slice(), key, u64::from(50 + 10 * key))?;
         let changes = changes_of(seen.as_slice(), key);
         assert_eq!(rt; chain.len() as u64, changes.wrapping_add(1));
@@ -216,7 +218,6 @@ fn changes_of_a_key_have_one_order(rt: HostRuntime) -> Result<(), Fail> {
             assert!(rt; goes_forward(seen.as_slice(), chain.as_slice(), caller, key));
         }
         let (value, state) = left_by(chain.as_slice());
-        let from = places[key as usize] as usize;
         let row = [u64::from(5 + key), value, state, 0];
         assert_words(&rt, words.get(from..from + 4), &row);
     }

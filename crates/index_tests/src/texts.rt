@@ -9,6 +9,14 @@ use xindex_core::{OpenError, Opened, Unclosed};
 fn an_error_of_opening_shows_its_cause(rt: HostRuntime) -> Result<(), Fail> {
     let texts = [
         (OpenError::BadLimit { number: 2 }, "bad limit 2"),
+        (
+            OpenError::Unsorted { at: 1 },
+            "the key of row 1 is not above the one before it",
+        ),
+        (
+            OpenError::TooMany { need: 3, have: 2 },
+            "the rows need 3 groups and there are 2",
+        ),
         (OpenError::Memory, "out of memory"),
     ];
     for (error, text) in texts {

@@ -10,7 +10,6 @@ use Rattle.index_machine.specs.declared.events.Action.{Action}
 use Rattle.index_machine.specs.declared.events.Action.TheVariants.{FailLink, FailLock, FailPop}
 use Rattle.index_machine.specs.declared.events.Action.TheVariants.{LinkRow, LoadFree, LoadFreeLink}
 use Rattle.index_machine.specs.declared.events.Action.TheVariants.{LoadHead, LoadKey, LoadLink}
-use Rattle.index_machine.specs.declared.events.Action.TheVariants.{LoadRoot, LoadSlotGroup}
 use Rattle.index_machine.specs.declared.events.Action.TheVariants.{LoadState, LoadValue, Lock}
 use Rattle.index_machine.specs.declared.events.Action.TheVariants.{PopFree, StorePrivate, StoreValue}
 use Rattle.index_machine.specs.declared.events.Action.TheVariants.{Unlock}
@@ -27,7 +26,6 @@ use Rattle.row_arena.specs.declared.taking.Taken.TheVariants as taken
 use Rattle.row_arena.specs.Taking.{Fills, TakesRow, first_state}
 use Rattle.delta_buffer.specs.Inserting.{Inserts, change_of}
 use Rattle.delta_buffer.specs.Walks.{AreWalkOf, IsWalkOf, Walks}
-use Rattle.sorted_group.specs.declared.answers.Lane.{Lane}
 use Rattle.sorted_group.specs.Loads.{AreLaneLoads, IsCutLoad, LoadsLanes}
 use Rattle.word_layout.specs.declared.headers.HeaderWord.{HeaderWord}
 use Rattle.word_layout.specs.declared.headers.HeaderWord.TheVariants.{Cut, Lanes}
@@ -45,7 +43,6 @@ use Rattle.point_calls.specs.Exchanges.{exchanges_head, exchanges_link, exchange
 use Rattle.point_calls.specs.Exchanges.{head_exchanges, link_exchanges, lock_exchanges}
 use Rattle.point_calls.specs.Exchanges.{no_exchange, one_head, one_head_and_link, one_link}
 use Rattle.point_calls.specs.Exchanges.{one_lock, one_of_each}
-use Rattle.point_calls.specs.Lookup.{ComesTo}
 use Rattle.point_calls.proofs.Exchanging.{count_in, few_behind, few_steps, few_then, fewer, just_one}
 use Rattle.point_calls.proofs.Exchanging.{none_by, none_made, none_yet}
 
@@ -80,7 +77,7 @@ walk_no_link g l (LoadLink h p n) is = refl
 walk_no_link g l (LoadKey p n) is = refl
 walk_no_link g l d is = absurd is
 
-walk_makes_none : (b : Board) (g l : ℕ) (h k : Hand) → IsHandOf b h → Walks b g l h k →
+pub walk_makes_none : (b : Board) (g l : ℕ) (h k : Hand) → IsHandOf b h → Walks b g l h k →
     MakesFewExchanges no_exchange h k
 walk_makes_none b g l h k of walks =
     none_made b h walks.0 k of walks.2 (no_walk_counts exchanges_lock walk_no_lock g l walks.0 walks.1)
@@ -104,27 +101,13 @@ no_lane_counts kind none g (d ∷ (next ∷ actions)) are =
     cut_is h (LoadHeader i (Cut lane) n) is = none i (Cut lane) n
     cut_is h e is = absurd is
 
-lanes_make_none : (b : Board) (g most : ℕ) (h k : Hand) → IsHandOf b h → LoadsLanes b g most h k →
+pub lanes_make_none : (b : Board) (g most : ℕ) (h k : Hand) → IsHandOf b h → LoadsLanes b g most h k →
     MakesFewExchanges no_exchange h k
 lanes_make_none b g most h k of loads =
     none_made b h loads.0 k of loads.3
     (no_lane_counts exchanges_lock (λ i which n. refl) g loads.0 loads.1)
     (no_lane_counts exchanges_head (λ i which n. refl) g loads.0 loads.1)
     (no_lane_counts exchanges_link (λ i which n. refl) g loads.0 loads.1)
-
--- the caller came to the lane of the key and walked it
-pub none_before : (b : Board) (h l n : Hand) (key : ℕ) (lane : Lane) → IsHandOf b h →
-    ComesTo b h key lane l → Walks b lane.group lane.number l n → MakesFewExchanges no_exchange h n
-none_before b h l n key lane of comes walks =
-    let g : ℕ = lane.group in
-    let there : Hand = comes.there in
-    let reaches = comes.reaches in
-    few_behind no_exchange h l n
-    (few_behind no_exchange h there l
-    (none_made b h (LoadSlotGroup comes.part 0 0 g ∷ LoadRoot comes.part reaches.root ∷ []) there of
-    reaches.steps refl refl refl)
-    (lanes_make_none b g 3 there l reaches.search.call.of comes.cuts))
-    (walk_makes_none b g lane.number l n comes.search.call.of walks)
 
 -- ---- a look ----
 
@@ -188,7 +171,7 @@ again_makes_none b h m place at word value second k of finds again =
     (found_of b h place at word m finds) (again.0, (m, refl, again.1), again.2) refl refl refl)
 
 -- so is it read
-read_makes_none : (b : Board) (h : Hand) (place : ℕ) (r : Read) (k : Hand) → IsHandOf b h →
+pub read_makes_none : (b : Board) (h : Hand) (place : ℕ) (r : Read) (k : Hand) → IsHandOf b h →
     Reads b h place r k → MakesFewExchanges no_exchange h k
 read_makes_none b h place (read.Live value) k of s =
     again_makes_none b h s.2 place s.0 s.1 value s.1 k of s.3 s.5
@@ -196,14 +179,6 @@ read_makes_none b h place read.Gone k of s = find_makes_none b h place s.0 s.1 k
 read_makes_none b h place (read.Locked at word) k of s = find_makes_none b h place at word k of s.0
 read_makes_none b h place (read.Changed at first second) k of s =
     again_makes_none b h s.1 place at first s.0 second k of s.2 s.4
-
--- behind a walk to it
-pub none_in_read : (b : Board) (h l n : Hand) (key : ℕ) (lane : Lane) (place : ℕ) (r : Read)
-    (k : Hand) → IsHandOf b h → ComesTo b h key lane l → Walks b lane.group lane.number l n → IsHandOf b n → Reads b n place r k →
-    MakesFewExchanges no_exchange h k
-none_in_read b h l n key lane place r k of comes walks at reads =
-    few_behind no_exchange h n k (none_before b h l n key lane of comes walks)
-    (read_makes_none b n place r k at reads)
 
 -- a tombstone is found by loads alone
 pub gone_makes_none : (b : Board) (h : Hand) (place : ℕ) (change : Change) (word : ℕ) (k : Hand) →

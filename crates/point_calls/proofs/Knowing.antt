@@ -24,14 +24,12 @@ use Rattle.index_rule.specs.declared.board.Board.{Board}
 use Rattle.index_rule.specs.declared.hand.Hand.{Hand}
 use Rattle.index_rule.specs.declared.rows.PrivateRow.{PrivateRow}
 use Rattle.index_rule.specs.declared.view.View.{View}
-use Rattle.index_rule.specs.Built.{AreBuilt}
 use Rattle.index_rule.specs.Hands.{IsHandOf, Makes, MakesAll, known, opening_of, view}
 use Rattle.index_rule.specs.Looks.{AddsLook}
 use Rattle.index_rule.specs.Moments.{AddsChange, AddsNoEntry, IsBetween, IsWithin}
 use Rattle.index_rule.specs.OwnRows.{place_of_private}
 use Rattle.index_rule.specs.Rule.{Follows}
 use Rattle.index_rule.proofs.Calls.{HasBegun, begins, begun_on, goes_on, within_end}
-use Rattle.index_rule.proofs.Logging.{built_before}
 use Rattle.index_rule.proofs.RecordReading.{KeepsLog, no_entry}
 use Rattle.index_rule.proofs.RecordStepping.{still_inside}
 use Rattle.index_rule.proofs.Stepping.{crossings_is, still_holds}
@@ -271,14 +269,11 @@ adds_whole b start h k change same old i none is adds =
       adds.3 ∙ ap (λ (l : Log). Made (length (history moment)) change old ∷ l) none,
     )
 
--- what is valid and built at the end is so at a moment
+-- what is valid at the end is so at a moment
 pub valid_at : (b : Board) (moment t : Execution) → Continues moment t → Valid (opening_of b) t →
     Valid (opening_of b) moment
 valid_at b moment t on valid =
     valid_before (opening_of b) on.0 moment (subst (Valid (opening_of b)) (sym on.1) valid)
-
-pub built_at : (moment t : Execution) → Continues moment t → AreBuilt t → AreBuilt moment
-built_at moment t on built = built_before on.0 moment (subst AreBuilt (sym on.1) built)
 
 -- ---- the look that ends a call ----
 

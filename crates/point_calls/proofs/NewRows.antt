@@ -1,5 +1,5 @@
 -- What a caller that is to link a new row knows after each of its steps.
-use Rattle.std.proofs.Common.{◌≡◌, ℕ, ◌<◌, inl, inr, ⊎_elim, true, false, [], ◌∷◌, ◌++◌, refl, sym, ap}
+use Rattle.std.proofs.Common.{◌≡◌, ℕ, ◌<◌, inl, inr, ⊎_elim, false, [], ◌∷◌, ◌++◌, refl, sym, ap}
 use Rattle.std.proofs.Common.{◌∙◌, subst}
 use Rattle.word_layout.specs.declared.places.Part.TheVariants as part
 use Rattle.word_layout.specs.declared.places.Part.{Part}
@@ -17,29 +17,26 @@ use Rattle.index_machine.specs.LivePlaces.{history}
 use Rattle.index_rule.specs.Moments.{AddsChange}
 use Rattle.row_arena.specs.Taking.{Fills, first_state}
 use Rattle.index_machine.specs.declared.events.Action.{Action}
-use Rattle.index_machine.specs.declared.events.Action.TheVariants.{Enter, Leave, LinkRow, LoadPhase}
+use Rattle.index_machine.specs.declared.events.Action.TheVariants.{LinkRow}
 use Rattle.index_machine.specs.declared.events.Action.TheVariants.{StorePrivate}
 use Rattle.index_machine.specs.Forms.{Unlocked, state_word}
 use Rattle.index_machine.specs.Places.{first_version}
 use Rattle.index_machine.specs.Words.{link_behind, store_of, word}
-use Rattle.machine_buffers.proofs.Inserting.{link_open}
-use Rattle.delta_buffer.specs.Inserting.{BelongsUntilLinked, CanInsert, IsPrivateStore, OnlyStores}
+use Rattle.delta_buffer.proofs.Linking.{keys_belong}
+use Rattle.delta_buffer.specs.Inserting.{BelongsUntilLinked, CanInsert}
 use Rattle.delta_buffer.specs.Searching.{BelongsBetween}
-use Rattle.point_calls.proofs.RowPutting.{group_seen, seen_open}
 use Rattle.index_machine.specs.Execution.{Continues, Execution}
-use Rattle.index_machine.specs.Reaching.{saw_open}
 use Rattle.index_machine.specs.Rows.{HeldBy, Holds, HoldsNone, InBuffer, role}
-use Rattle.index_machine.specs.Sections.{IsNoCrossing, StaysInside}
+use Rattle.index_machine.specs.Sections.{IsNoCrossing}
 use Rattle.index_machine.proofs.Executions.{choice-other, choice-same, continues_trans}
 use Rattle.index_machine.proofs.Holders.{TakesLock}
-use Rattle.machine_readers.proofs.ReadSections.{saw_open_on}
 use Rattle.index_rule.specs.declared.board.Board.{Board}
 use Rattle.index_rule.specs.declared.hand.Hand.{Hand}
 use Rattle.index_rule.specs.Hands.{IsHandOf, Makes, MakesAll, known, opening_of}
 use Rattle.index_rule.proofs.BufferStepping.{still_row}
 use Rattle.index_rule.proofs.Calls.{HasBegun, begun_on, goes_on, is_within}
 use Rattle.index_rule.proofs.RecordReading.{KeepsLog}
-use Rattle.index_rule.proofs.RecordStepping.{goes_on_inside, now, since}
+use Rattle.index_rule.proofs.RecordStepping.{now}
 use Rattle.index_rule.proofs.Stepping.{valid_after}
 use Rattle.delta_buffer.specs.Walks.{MakesIn, load_of_link}
 use Rattle.delta_buffer.proofs.CallSteps.{made_in_call}
@@ -50,11 +47,12 @@ use Rattle.index_machine.specs.Lanes.{HasLane}
 use Rattle.machine_buffers.specs.Groups.{Begins}
 use Rattle.index_rule.proofs.BufferStepping.{still_in_lane}
 use Rattle.point_calls.specs.declared.found.Gap.{Gap}
-use Rattle.point_calls.specs.PointCalls.{IsOneSection, OpensEmpty, StoresElsewhere}
-use Rattle.point_calls.specs.Putting.{HasFoundGap, IsMissing, MayLinkIn}
-use Rattle.point_calls.proofs.Knowing.{built_at, call_since, call_step, section_on, valid_at, within_on}
+use Rattle.point_calls.specs.PointCalls.{IsOneSection, StoresElsewhere}
+use Rattle.point_calls.specs.Putting.{HasFoundGap, HasNoRow, MayComeInto, MayLinkIn}
+use Rattle.point_calls.proofs.Knowing.{call_since, call_step, section_on}
 use Rattle.point_calls.proofs.LeftWords.{left_on, row_elsewhere}
-use Rattle.point_calls.proofs.Missing.{gap_absent, group_stays, no_array}
+use Rattle.point_calls.proofs.NoneElsewhere.{may_come_on, no_row_on, permission}
+use Rattle.point_calls.proofs.Staying.{stays_in}
 
 -- a step by which the hand does not leave, takes no lock, adds no entry, and stores nothing at the
 -- word
@@ -73,6 +71,24 @@ lane_after b g lane key h k d never m can has =
     still_in_lane b h k d can.call.of m g lane key never
     (can_walk b g h (searches_follow b g h can)) has
 
+-- so it still belongs into the gap
+pub between_on : (b : Board) (h k : Hand) (gap : Gap) (d : Action) → IsNoCrossing d →
+    (Begins gap.lane.group d → ⊥) → Makes b h d k → CanSearch b gap.lane.group h →
+    BelongsBetween (opening_of b) gap.lane.group gap.lane.number gap.key gap.before gap.next (known h) →
+    BelongsBetween (opening_of b) gap.lane.group gap.lane.number gap.key gap.before gap.next (known k)
+between_on b h k gap d none never m can between = (
+  lane_after b gap.lane.group gap.lane.number gap.key h k d never m can between.0,
+  before_after b gap.lane.group gap.lane.number gap.key gap.before h k d none m can between.1,
+  ⊎_elim (λ (z : gap.next ≡ 0). inl z)
+      (λ (z : (j : ℕ) × (role (opening_of b) gap.next (known h) ≡ InBuffer gap.lane.group j) × (gap.key < j)).
+      inr (
+        z.0,
+        still_row b h k d can.call.of m can.call.reading.caller none gap.lane.group z.0 gap.next can.stands z.1,
+        z.2,
+      ))
+      between.2,
+)
+
 -- it still may link behind such a step
 pub may_on : (b : Board) (start h k : Hand) (gap : Gap) (d : Action) →
     IsQuiet h.number (link_behind gap.lane.group gap.lane.number gap.before) d → Makes b h d k →
@@ -85,31 +101,13 @@ may_on b start h k gap d quiet m may =
     record {
       call = call;
       search = search_after b gap.lane.group h k d quiet.none quiet.free m may.search;
-      own = group_stays o (known h) (known k) may.call.follows.built call.follows.built gap.key
-          gap.lane.group may.own;
-      moment = may.moment;
-      moment_within = within_on start h k may.moment may.moment_within on;
-      absent = may.absent;
+      may = may_come_on b start h k gap.lane.group gap.key
+          (stays_in start h k may.call.so_far.number call.so_far.number may.call.section call.section on)
+          may.search.call.reading.caller call.follows.valid on may.may;
+      no_row = no_row_on b gap.key start h k on may.no_row;
       loaded = left_on b start h k (load_of_link gap.lane.group gap.lane.number gap.before gap.next) d
           (link_behind gap.lane.group gap.lane.number gap.before) may.call.so_far.number of quiet.elsewhere m may.loaded;
-      between = (
-        lane_after b gap.lane.group gap.lane.number gap.key h k d (quiet.unbegun gap.lane.group) m
-            may.search may.between.0,
-        before_after b gap.lane.group gap.lane.number gap.key gap.before h k d quiet.none m may.search
-            may.between.1,
-        ⊎_elim (λ (z : gap.next ≡ 0). inl z)
-            (λ (z : (j : ℕ) × (role o gap.next (known h) ≡ InBuffer gap.lane.group j) × (gap.key < j)).
-            inr (
-              z.0,
-              still_row b h k d of m may.search.call.reading.caller quiet.none gap.lane.group z.0 gap.next
-                  may.search.stands z.1,
-              z.2,
-            ))
-            may.between.2,
-      );
-      seen = now b h k d of m (λ z t. saw_open z gap.lane.group t ≡ true)
-          (saw_open_on h.number gap.lane.group (since b h k d of m) (known h)
-          (goes_on_inside b h k d of m quiet.none) may.seen);
+      between = between_on b h k gap d quiet.none (quiet.unbegun gap.lane.group) m may.search may.between;
     }
 
 -- its step is one of the call
@@ -119,87 +117,25 @@ made_there b start h k gap d may m =
     made_in_call b start h k d (call_since b start h may.call) may.call.so_far.number
     may.search.call.of m
 
--- the key was missing
-pub is_missing : (b : Board) (start h : Hand) (gap : Gap) → OpensEmpty b →
-    MayLinkIn b start h gap → IsMissing b gap.key start h
-is_missing b start h gap empty may =
-    let o = opening_of b in
-    let on = may.moment_within.5 in
-    let built = built_at may.moment (known h) on may.call.follows.built in (
-      may.moment,
-      may.moment_within,
-      gap_absent o may.moment empty (valid_at b may.moment (known h) on may.call.follows.valid) built
-          gap.key gap.lane.group
-          (group_stays o (known h) may.moment may.call.follows.built built gap.key gap.lane.group may.own)
-          may.absent,
-    )
-
 -- ---- the gap that was found ----
 
--- behind the load of the phase
-pub may_link : (b : Board) (start h n : Hand) (gap : Gap) (word : ℕ) →
-    (found : HasFoundGap b start h gap) → (m : Makes b h (LoadPhase gap.lane.group word) n) →
-    MayLinkIn b start n gap
-may_link b start h n gap word found m =
-    let at = found.group_of in
-    let seen = group_seen b start h n gap.lane.group gap.key word at m in
-    let finds = found.finds in
+-- there a row may be linked
+pub may_link : (b : Board) (start h : Hand) (gap : Gap) → HasFoundGap b start h gap →
+    MayComeInto b start h gap.lane.group gap.key → HasNoRow b gap.key start h → MayLinkIn b start h gap
+may_link b start h gap found may had =
     record {
-      call = seen.call;
-      search = seen.search;
-      own = seen.own;
-      moment = finds.moment;
-      moment_within = within_on start h n finds.moment finds.within
-          (goes_on b h n (LoadPhase gap.lane.group word) at.search.call.of m);
-      absent = finds.absent;
-      loaded = left_on b start h n (load_of_link gap.lane.group gap.lane.number gap.before gap.next)
-          (LoadPhase gap.lane.group word) (link_behind gap.lane.group gap.lane.number gap.before) at.call.so_far.number at.search.call.of tt m
-          found.loaded;
-      between = (
-        lane_after b gap.lane.group gap.lane.number gap.key h n (LoadPhase gap.lane.group word)
-            (λ z. let bad = z.3 in cc) m at.search finds.belongs.0,
-        before_after b gap.lane.group gap.lane.number gap.key gap.before h n
-            (LoadPhase gap.lane.group word) tt m at.search finds.belongs.1,
-        ⊎_elim (λ (z : gap.next ≡ 0). inl z)
-            (λ (z : (j : ℕ) × (role (opening_of b) gap.next (known h) ≡ InBuffer gap.lane.group j)
-            × (gap.key < j)).
-            inr (
-              z.0,
-              still_row b h n (LoadPhase gap.lane.group word) at.search.call.of m at.search.call.reading.caller tt
-                  gap.lane.group z.0 gap.next at.search.stands z.1,
-              z.2,
-            ))
-            finds.belongs.2,
-      );
-      seen = seen_open b start h n gap.lane.group gap.key word at m;
+      call = found.at.call;
+      search = found.at.search;
+      may = may;
+      no_row = had;
+      loaded = found.loaded;
+      between = found.between;
     }
 
--- ---- what others do until the row is linked ----
+-- ---- its row ----
 
-only_inside : (c : ℕ) (newer : Execution) → OnlyStores c newer → StaysInside c newer
-only_inside c [] only = tt
-only_inside c (e ∷ newer) only =
-    ((λ own. stores_inside e.action (only.0 own)), only_inside c newer only.1)
-  where
-    stores_inside : (d : Action) → IsPrivateStore d → IsNoCrossing d
-    stores_inside (StorePrivate place part value) is = tt
-    stores_inside (Enter n) is = absurd is
-    stores_inside (Leave n) is = absurd is
-    stores_inside d is = tt
-
--- the key belongs there as long as it has no row
-pub belongs_until : (b : Board) (start h : Hand) (gap : Gap) → OpensEmpty b →
-    MayLinkIn b start h gap → BelongsUntilLinked (opening_of b) h.number gap.lane.group gap.key (known h)
-belongs_until b start h gap empty may newer valid only none =
-    let o = opening_of b in
-    let stay = only_inside h.number newer only in
-    link_open o h.number gap.lane.group gap.key may.search.call.reading.caller newer [] (known h) valid tt stay
-    may.search.stands may.own
-    (λ a is. no_array o (known h) empty may.call.follows.valid may.call.follows.built gap.lane.group gap.key a is)
-    (saw_open_on h.number gap.lane.group newer (known h) stay may.seen) none
-
--- so the filled row may be linked
-pub can_insert : (b : Board) (start h : Hand) (gap : Gap) (place : ℕ) → OpensEmpty b →
+-- the filled row may be linked
+pub can_insert : (b : Board) (start h : Hand) (gap : Gap) (place : ℕ) →
     MayLinkIn b start h gap → Holds (opening_of b) h.number place (known h) →
     word (opening_of b) (known h) (PlaceWord place part.Key) ≡ gap.key →
     word (opening_of b) (known h) (PlaceWord place part.State)
@@ -207,15 +143,16 @@ pub can_insert : (b : Board) (start h : Hand) (gap : Gap) (place : ℕ) → Open
     (word (opening_of b) (known h) (PlaceWord place part.Value))) →
     CanInsert (opening_of b) h.number gap.lane.group gap.lane.number place gap.before gap.next
     (known h)
-can_insert b start h gap place empty may held is new =
+can_insert b start h gap place may held is new =
     let o = opening_of b in
     record {
       filled = record { held = held; new_word = new; link_word = refl };
       between = subst (λ (z : ℕ). BelongsBetween o gap.lane.group gap.lane.number z gap.before gap.next (known h)) (sym is)
           may.between;
-      permission = inl may.seen;
+      permission = permission o h.number gap.key gap.lane.group (known h) may.may.elsewhere;
       belongs = subst (λ (z : ℕ). BelongsUntilLinked o h.number gap.lane.group z (known h)) (sym is)
-          (belongs_until b start h gap empty may);
+          (keys_belong o (known h) may.call.follows.valid h.number gap.key gap.lane.group
+          may.search.call.reading.caller may.may.elsewhere);
     }
 
 -- the words of its own row are other ones than the link

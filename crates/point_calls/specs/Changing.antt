@@ -58,3 +58,7 @@ refusal_of (wrote.Raced place expected found) =
     Some (tried.Again (why.Raced (part_address place State) expected found))
 refusal_of (wrote.Worn place word) = Some (tried.Worn place word)
 refusal_of _ = None
+
+-- the answer of the call that met this phase word of a frozen group
+abbrev pub frozen_again : ℕ → ℕ → Tried (Option ℕ)
+frozen_again group word = tried.Again (why.Frozen group word)

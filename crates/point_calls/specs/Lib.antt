@@ -1,7 +1,10 @@
 pub mod Exchanges
 pub mod PointCalls
-pub mod Lookup
 pub mod Getting
 pub mod Changing
 pub mod Removing
 pub mod Putting
+pub mod Places
+pub mod Updating
+pub mod Arrays
+pub mod Seeking

@@ -26,10 +26,6 @@ use Rattle.record_cell.specs.Reads.{IsHeldByAnother}
 
 -- ---- what a call needs ----
 
--- the index was opened with no rows, so no array has a place for any key
-abbrev pub OpensEmpty : Board → Type 0
-OpensEmpty b = (opening_of b).rows ≡ []
-
 -- the spare row is the one that the hand holds; without one it holds none
 abbrev pub HasSpare : Board → Hand → Option PrivateRow → Type 0
 HasSpare b h (Some row) = Holds (opening_of b) h.number (place_of_private row) (known h)

@@ -1,4 +1,4 @@
-//! What a walk through the lane of a key found of it.
+//! What a walk through the lane of a key left of it.
 
 use sorted_group::Lane;
 
@@ -18,4 +18,13 @@ pub(crate) struct Gap {
     pub(crate) before: u32,
     pub(crate) next: u32,
     pub(crate) key: u64,
+}
+
+/// Where a key without a value can come into a buffer.
+#[derive(Clone, Copy)]
+pub(crate) enum Missed {
+    /// Its row is a tombstone, by this state word.
+    Tombstone { row: FoundRow, word: u64 },
+    /// It had no row.
+    Between(Gap),
 }

@@ -4,14 +4,20 @@
 //! moment of the call: where the load, the exchange or the store was made that decided it.
 #![tactic(auto)]
 
+mod acting;
+mod arrays;
 mod found;
 mod getting;
 mod linking;
 mod lookup;
-mod overwriting;
+mod making_room;
+mod phases;
 mod putting;
 mod refusing;
 mod removing;
+mod reviving;
+mod seeking;
+mod updating;
 
 pub use getting::get;
 pub use putting::put;

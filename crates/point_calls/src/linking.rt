@@ -2,9 +2,8 @@
 ghost use Rattle.std.specs.Prelude.{◌≡◌, MatchResult, None, Some};
 ghost use Rattle.index_rule.specs.Calls.{CanCall};
 ghost use Rattle.point_calls.specs.Exchanges.{MakesFewExchanges, one_head, one_head_and_link};
-ghost use Rattle.point_calls.specs.PointCalls.{HasSpare, IsOneSection, OpensEmpty};
-ghost use Rattle.point_calls.specs.Putting.{HasFoundGap, IsFullOnly, MayLinkIn, PutTells};
-ghost use Rattle.point_calls.specs.Putting.{GetsNoRow, KeepsSpare};
+ghost use Rattle.point_calls.specs.PointCalls.{HasSpare, IsOneSection};
+ghost use Rattle.point_calls.specs.Putting.{GetsNoRow, IsFullOnly, KeepsSpare, LeavesNone, MayLinkIn, PutTells};
 
 use crate::found::Gap;
 use crate::refusing::raced;
@@ -13,12 +12,8 @@ use index_rule::{Board, Hand, Linked, PrivateRow};
 use row_arena::{Taken, fill, take};
 use std::snapshot::Snapshot;
 use tried_calls::{Tried, Why};
-use word_layout::Phase;
 
-/// Links a row for the key into the gap, tried once. It takes effect at the exchange of the
-/// link.
-///
-/// A frozen group is met before a row is taken, so `Frozen` stands before `Full`.
+/// Links a row for the key into the gap, tried once. It takes effect at the exchange of the link.
 #[inline]
 pub(crate) fn link_new(
     board: &Board,
@@ -28,9 +23,8 @@ pub(crate) fn link_new(
     gap: Gap,
     value: u64,
 ) -> Tried<Option<u64>>
-    requires empty { OpensEmpty board.now }
     requires spare { HasSpare board.now hand.old spare.old }
-    requires found { HasFoundGap board.now start.now.value hand.old gap }
+    requires may { MayLinkIn board.now start.now.value hand.old gap }
     ensures call { CanCall board.now hand.new }
     ensures number { hand.new.number ≡ start.now.value.number }
     ensures section { IsOneSection start.now.value hand.new }
@@ -39,12 +33,8 @@ pub(crate) fn link_new(
     ensures tells { PutTells board.now gap.key value start.now.value result hand.new }
     ensures full { IsFullOnly spare.old result }
     ensures kept { KeepsSpare spare.old result spare.new }
+    ensures none { LeavesNone spare.old result spare.new }
 {
-    let group = gap.lane.group;
-    let word = board.load_phase(hand, group);
-    if word != Phase::Open.word() {
-        return Tried::Again(Why::Frozen { group, word });
-    }
     let mut row = match own_row(board, hand, start, spare, gap) {
         Ok(row) => row,
         Err(refusal) => return refusal,
@@ -54,7 +44,7 @@ pub(crate) fn link_new(
         Linked::Done => Tried::Done(None),
         Linked::Raced { row, found } => {
             keep(spare, row);
-            let link = board.link_address(group, gap.lane.number, gap.before);
+            let link = board.link_address(gap.lane.group, gap.lane.number, gap.before);
             raced(link, gap.next as u64, found)
         }
     }
@@ -69,7 +59,6 @@ fn own_row(
     spare: &mut Option<PrivateRow>,
     gap: Gap,
 ) -> Result<PrivateRow, Tried<Option<u64>>>
-    requires empty { OpensEmpty board.now }
     requires spare { HasSpare board.now hand.old spare.old }
     requires may { MayLinkIn board.now start.now.value hand.old gap }
     ensures gone { spare.new ≡ None }

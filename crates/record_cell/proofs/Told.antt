@@ -20,14 +20,11 @@ use Rattle.index_machine.proofs.Options.{none_some}
 use Rattle.machine_readers.specs.Redirects.{HasNoValue}
 use Rattle.machine_readers.specs.Versions.{HasVersion}
 use Rattle.machine_readers.proofs.FormsMet.{not_blank}
-use Rattle.machine_readers.proofs.FromOpening.{not_found, versions_count_changes}
-use Rattle.index_machine.specs.KeyRanges.{group_of}
-use Rattle.word_layout.specs.declared.phase.Phase.TheVariants.{Open, Opened}
+use Rattle.machine_readers.proofs.FromOpening.{versions_count_changes}
 use Rattle.index_rule.specs.declared.board.Board.{Board}
 use Rattle.index_rule.specs.declared.hand.Hand.{Hand}
 use Rattle.index_rule.specs.Hands.{IsHandOf, Makes, known, opening_of}
 use Rattle.index_rule.specs.Records.{key_at, or_zero}
-use Rattle.index_rule.proofs.BuiltLaws.{groups_as_opened, one_place_each}
 use Rattle.index_rule.proofs.Calls.{begun_on, from_there, goes_on, is_within, up_to, within_end}
 use Rattle.index_rule.proofs.RecordReading.{value_enclosed, value_in_map_at}
 use Rattle.index_rule.proofs.RecordStepping.{same_role, still_at, valid_moment}
@@ -36,7 +33,7 @@ use Rattle.index_rule.proofs.Standing.{at_role, stays_inside}
 use Rattle.index_rule.proofs.Stepping.{others_only, valid_known}
 use Rattle.record_cell.specs.Conditions.{IsLiveState, IsLockedState, IsTombstoneState}
 use Rattle.record_cell.specs.Finding.{CanStepAt, IsFoundAt, IsReadyAt}
-use Rattle.record_cell.specs.Reads.{FindsLock, FindsNone, FindsValue, GoneIsAbsent}
+use Rattle.record_cell.specs.Reads.{FindsLock, FindsNone, FindsValue}
 use Rattle.record_cell.specs.Reads.{HasNoValueElsewhere}
 use Rattle.record_cell.specs.Writes.{FindsLastVersion, worn_word}
 use Rattle.record_cell.proofs.Found.{ready_on}
@@ -120,17 +117,6 @@ absent o t valid place key none elsewhere =
         (ap (λ (z : ℕ). live_value (form o z t)) (sym here) ∙ has.1))
         (λ (other : HasNoValue o t q). has_none o t q has.0 other has.1)
         (elsewhere q has.3)
-
-open_not : {X : Type 0} {f : ℕ} → Open ≡ Opened f → X
-open_not e = cc
-
-pub gone_absent : GoneIsAbsent
-gone_absent o t valid built place group key here none rows =
-    (not_found o t valid key (group_of o key t) refl
-    (λ f e. open_not (sym ((groups_as_opened o t built).1 (group_of o key t)) ∙ e))
-    (λ other there. subst (HasNoValue o t)
-    ((one_place_each o t valid built key place other group (group_of o key t)).0 here there) none)
-    rows).1
 
 -- a tombstone that was found
 pub finds_none : (b : Board) (h k : Hand) (place at word : ℕ) → IsReadyAt b h place →

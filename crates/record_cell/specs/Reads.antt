@@ -6,12 +6,8 @@ use Rattle.index_machine.specs.Execution.{Execution}
 use Rattle.index_machine.specs.Forms.{Form, Copied, IsLockedBy, live_value}
 use Rattle.index_machine.specs.Places.{form}
 use Rattle.index_machine.specs.LivePlaces.{value_in_map}
-use Rattle.index_machine.specs.Rows.{InArray, role, role_key}
-use Rattle.index_machine.specs.KeyRanges.{group_of}
-use Rattle.index_machine.specs.Conditions.{Valid}
-use Rattle.machine_readers.specs.Readers.{BufferHasNone}
+use Rattle.index_machine.specs.Rows.{role, role_key}
 use Rattle.machine_readers.specs.Redirects.{HasNoValue}
-use Rattle.index_rule.specs.Built.{AreBuilt}
 use Rattle.index_rule.specs.declared.board.Board.{Board}
 use Rattle.index_rule.specs.declared.hand.Hand.{Hand}
 use Rattle.index_rule.specs.Hands.{Makes, known, opening_of}
@@ -95,13 +91,3 @@ ReadTells b h place (read.Live value) k = FindsValue b h place value k
 ReadTells b h place read.Gone k = FindsNone b h place k
 ReadTells b h place (read.Locked at word) k = FindsLock b h place at k
 ReadTells b h place (read.Changed at first second) k = HasSameKey b h place at k
-
--- ---- the law ----
-
--- while nothing is rebuilt, a key whose place in the array has no value is not in the map, unless a row in
--- the buffer of its group has one
-abbrev pub GoneIsAbsent : Type 0
-GoneIsAbsent =
-    (o : Opening) (t : Execution) → Valid o t → AreBuilt t → (place group key : ℕ) →
-    role o place t ≡ InArray group key → HasNoValue o t place →
-    BufferHasNone o t (group_of o key t) key → value_in_map o key t ≡ None

@@ -13,6 +13,6 @@ mod reviving;
 
 pub use answers::{Read, Wrote};
 pub use changing::{kill, update};
-pub use laws::{gone_is_absent, what_may_be_revived_stays_so};
+pub use laws::what_may_be_revived_stays_so;
 pub use reading::read;
 pub use reviving::revive;

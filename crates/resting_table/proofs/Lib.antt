@@ -1,4 +1,12 @@
-pub mod FirstGroups
-pub mod KeptPairs
+pub mod NoRebuildLaws
+pub mod PairsBelow
+pub mod RestingRecords
+pub mod RestingGroups
+pub mod GroupRecords
+pub mod LaneReading
+pub mod RecordCounts
+pub mod RestingChain
 pub mod RestingWords
-pub mod RowsBefore
+pub mod ArrayReading
+pub mod LaneWords
+pub mod ChainWords

@@ -1,1 +1,4 @@
+pub mod NoRebuild
+pub mod NoRebuildLaws
 pub mod Resting
+pub mod Reading

@@ -1,6 +1,7 @@
 -- Loads of a buffer change nothing: a hand can go on after them as before, be it a caller's or that of the
 -- keeper of the group's part.
-use Rattle.std.proofs.Common.{◌≡◌, ℕ, inl, inr, ⊎_elim, Option, None, true, false, List, [], ◌∷◌, ◌++◌}
+use Rattle.std.proofs.Common.{◌≡◌, ℕ, inl, inr, ⊎_elim, Option, None, true, false, List, [], ◌∷◌}
+use Rattle.std.proofs.Common.{◌++◌}
 use Rattle.std.proofs.Common.{append_assoc, refl, sym, ap, ◌∙◌, subst}
 use Rattle.word_layout.specs.declared.headers.HeaderWord.{HeaderWord}
 use Rattle.word_layout.specs.declared.places.Part.{Part}

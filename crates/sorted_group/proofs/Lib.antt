@@ -1,2 +1,9 @@
 pub mod BufferLoads
 pub mod LaneChoice
+pub mod ArrayLoads
+pub mod KeyReads
+pub mod Missing
+pub mod ArrayHeaders
+pub mod ArraySearches
+pub mod Found
+pub mod LastKeys

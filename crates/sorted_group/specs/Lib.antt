@@ -1,2 +1,9 @@
 pub mod Standing
 pub mod Loads
+pub mod Arrays
+pub mod KeyLoads
+pub mod Searches
+pub mod Readers
+pub mod Located
+pub mod OneProof
+pub mod LaneEnds

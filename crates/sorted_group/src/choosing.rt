@@ -1,10 +1,11 @@
-//! The lane of a key is chosen.
-ghost use Rattle.std.specs.Prelude.{◌≡◌};
-ghost use Rattle.index_machine.specs.Lanes.{HasLane};
+//! The lane of a key is chosen, and where its keys end.
+ghost use Rattle.std.specs.Prelude.{◌≡◌, ◌<◌};
+ghost use Rattle.index_machine.specs.Lanes.{HasLane, lanes};
 ghost use Rattle.index_rule.specs.Hands.{known, opening_of};
 ghost use Rattle.index_rule.specs.Moments.{AddsNoEntry};
 ghost use Rattle.sorted_group.specs.Standing.{CanFollow, CanSearch, IsOfBuffer};
 ghost use Rattle.sorted_group.specs.Loads.{LoadsLanes};
+ghost use Rattle.sorted_group.specs.LaneEnds.{EndsLane};
 
 use crate::answers::Lane;
 use crate::headers::lanes;
@@ -38,4 +39,26 @@ pub fn lane_for(board: &Board, hand: &mut Hand, group: u32, key: u64) -> Lane
         }
     }
     Lane { group, number: low }
+}
+
+/// The greatest key of a lane, where `end` is that of its group.
+///
+/// It loads the number of lanes, and the cut of the next one if there is one. It adds no entry.
+pub fn lane_end(board: &Board, hand: &mut Hand, lane: Lane, end: u64) -> u64
+    requires can { CanFollow board.now lane.group hand.old }
+    requires lane { lane.number < lanes (opening_of board.now) lane.group (known hand.old) }
+    ensures number { hand.new.number ≡ hand.old.number }
+    ensures can { CanFollow board.now lane.group hand.new }
+    ensures search { CanSearch board.now lane.group hand.old →
+        CanSearch board.now lane.group hand.new }
+    ensures steps { LoadsLanes board.now lane.group 1 hand.old hand.new }
+    ensures end { EndsLane (opening_of board.now) lane end result (known hand.new) }
+    ensures log { AddsNoEntry hand.old hand.new }
+{
+    let count = lanes(board, hand, lane.group);
+    let next = lane.number + 1;
+    if next == count {
+        return end;
+    }
+    board.load_header(hand, lane.group, HeaderWord::Cut { lane: next }) - 1
 }

@@ -224,7 +224,7 @@ told_next i seen told (y ∷ rest) items at d v split many below are_told are_ne
       many = (let parts = length-append told (v ∷ []) in omega arith);
       are_told = told_more i seen 1 told v are_told
           (subst (λ (z : ℕ). IsTold i seen (1 + z) v) (sym many) one);
-      are_new = subst (λ (z : ℕ). AreNewPasses i z rest) (omega arith) are_new.4;
+      are_new = subst (λ (z : ℕ). AreNewPasses i z rest) (omega arith) are_new.5;
     }
 
 -- ---- the first of new passes ----

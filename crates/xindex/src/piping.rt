@@ -1,5 +1,5 @@
 //! The mode `pipe`: one session over an index that is opened for it.
-ghost use Rattle.std.specs.Prelude.{◌≡◌, ◌≢◌, ◌≤◌, IsSomeAnd};
+ghost use Rattle.std.specs.Prelude.{◌≡◌, ◌≢◌, ◌≤◌, [], IsSomeAnd};
 ghost use Rattle.line_session.specs.Ends.{CountsRead, CountsWrite, ends_of};
 ghost use Rattle.xindex_core.specs.Opened.{IsNewlyOpened};
 ghost use Rattle.xindex_core.specs.Passes.{limits_of_index};
@@ -56,7 +56,7 @@ fn serve<R: Wait + Copy, S: Source, K: Sink, G: Gate>(
     most: u64,
 ) -> Outcome
     requires most { 1 ≤ most }
-    requires new { IsNewlyOpened (limits_of_index opened.index) opened }
+    requires new { IsNewlyOpened (limits_of_index opened.index) [] opened }
     ensures session { IsSomeAnd result.opened (Pipes (limits_of_index opened.index) most
         (ends_of (S.state source.old) (K.state sink.old))
         (ends_of (S.state source.new) (K.state sink.new)) result.status) }

@@ -27,7 +27,7 @@ pub fn serve_alone<N: Name, R: Wait + Copy, S: Source, K: Sink, G: Gate>(
     most: u64,
 ) -> (Ended, Opened)
     requires most { 1 ≤ most }
-    requires new { IsNewlyOpened (limits_of_index opened.index) opened }
+    requires new { IsNewlyOpened (limits_of_index opened.index) [] opened }
     requires name { IsNameOf N.table N.opening opened.index }
     ensures opened { IsServed (limits_of_index opened.index) result.1 }
     ensures session { Serves (AnswersAlone (limits_of_index opened.index)) [] (first_log result.1)

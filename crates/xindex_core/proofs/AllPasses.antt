@@ -17,7 +17,7 @@ use Rattle.index_machine.specs.declared.events.Action.{Action}
 use Rattle.index_machine.specs.declared.events.Action.TheVariants.{Close, Enter, Leave, Lock}
 use Rattle.index_machine.specs.declared.opening.Opening.{Opening}
 use Rattle.index_machine.specs.Conditions.{Allowed, Valid}
-use Rattle.index_machine.specs.Execution.{ContinuesWithout, Execution}
+use Rattle.index_machine.specs.Execution.{ContinuesWithout, Execution, Without}
 use Rattle.index_machine.specs.Lists.{In}
 use Rattle.index_machine.specs.LivePlaces.{history}
 use Rattle.index_machine.specs.Openings.{opening_map}
@@ -26,14 +26,14 @@ use Rattle.index_machine.specs.Sections.{IsCaller, IsOutside, crossings}
 use Rattle.index_machine.specs.Keepers.{IsKeeper, IsPartKeeper}
 use Rattle.index_machine.specs.Sections.{crossings_after}
 use Rattle.index_machine.specs.Words.{limits}
-use Rattle.index_machine.proofs.Executions.{crossings_on}
+use Rattle.index_machine.proofs.Executions.{crossings_on, without_append}
 use Rattle.index_machine.proofs.Holders.{TakesLock, holds_no_lock_after, holds_no_lock_first}
 use Rattle.index_machine.proofs.Holders.{outside_holds_none}
 use Rattle.machine_buffers.proofs.NextRows.{less_or_not}
 use Rattle.machine_places.proofs.FromOpening.{legal}
 use Rattle.index_rule.specs.declared.board.Board.{Board}
 use Rattle.index_rule.specs.declared.hand.Hand.{Hand}
-use Rattle.index_rule.specs.Built.{AreBuilt, IsBuilt}
+use Rattle.resting_table.specs.NoRebuild.{HasNoRebuild, IsNoRebuild}
 use Rattle.index_rule.specs.Ended.{AreAllHands, AreOutside, EndsFor, Leaves, numbers_of}
 use Rattle.index_rule.specs.Hands.{IsHandOf, known, opening_of, view}
 use Rattle.index_rule.specs.Rule.{Follows}
@@ -42,13 +42,15 @@ use Rattle.resting_table.specs.Resting.{LeaveAtRest}
 use Rattle.xindex_core.specs.declared.index.Index.{Index}
 use Rattle.xindex_core.specs.declared.keeper.Keeper.{Keeper}
 use Rattle.xindex_core.specs.declared.pass.Pass.{Pass}
-use Rattle.xindex_core.specs.Closing.{AreAllKeepers, AreAllLogsIn, AreAllPasses, AreKeepersOf}
+use Rattle.xindex_core.specs.Closing.{AreAllKeepers, AreAllLogsIn, AreAllPasses, AreGivenBack, AreKeepersOf}
+use Rattle.xindex_core.specs.Closing.{KeepersAreIdle}
 use Rattle.xindex_core.specs.Closing.{ArePassesFrom, ArePassesOf, ClosedLogsHaveOneOrder, EndsForAll}
 use Rattle.xindex_core.specs.Closing.{IsClosedWith, IsReadBack, PassesInOrderAreAll, caller_numbers}
 use Rattle.xindex_core.specs.Closing.{calling_hands, keeping_hands, parts_kept}
 use Rattle.xindex_core.specs.OneOrder.{logs_of}
 use Rattle.xindex_core.specs.Passes.{IsKeeperOf, bounds_of_index, known_to, log_of, number_of}
 use Rattle.xindex_core.specs.Passes.{opening_with, part_kept_by}
+use Rattle.xindex_core.proofs.Idle.{nothing_rebuilt}
 use Rattle.xindex_core.proofs.OneOrder.{as_many, below, log_at}
 
 -- ---- keepers are outside ----
@@ -125,7 +127,7 @@ all_outside i [] behind of rest = rest
 all_outside i (p ∷ ps) behind of rest =
     (of.0.of, of.0.rests.outside, all_outside i ps behind of.1 rest)
 
-pub all_there : (i : Index) (passes : List Pass) (keepers : List Keeper) → AreAllPasses i passes →
+all_there : (i : Index) (passes : List Pass) (keepers : List Keeper) → AreAllPasses i passes →
     AreAllKeepers i keepers → AreAllHands i.board (calling_hands passes ++ keeping_hands keepers)
 all_there i passes keepers all are =
     let callers = (limits (opening_with i)).callers in
@@ -138,6 +140,30 @@ all_there i passes keepers all are =
           (keeper_in i keepers (n - callers) n are.of (omega arith)
           (are.each (n - callers) (omega arith))))
           (less_or_not n callers);
+    }
+
+-- the keepers among them made no step
+keepers_idle : (i : Index) (keepers : List Keeper) → AreKeepersOf i keepers →
+    KeepersAreIdle (opening_with i) (keeping_hands keepers)
+keepers_idle i [] of = tt
+keepers_idle i (k ∷ ks) of = ((λ _. of.0.idle), keepers_idle i ks of.1)
+
+all_idle : (i : Index) (passes : List Pass) (behind : List Hand) → ArePassesOf i passes →
+    KeepersAreIdle (opening_with i) behind →
+    KeepersAreIdle (opening_with i) (calling_hands passes ++ behind)
+all_idle i [] behind of rest = rest
+all_idle i (p ∷ ps) behind of rest = (
+  (λ (keeper : IsKeeper (opening_with i) (number_of p)).
+      let caller = of.0.rests.caller in absurd (omega arith)),
+  all_idle i ps behind of.1 rest,
+)
+
+pub given_back : (i : Index) (passes : List Pass) (keepers : List Keeper) → AreAllPasses i passes →
+    AreAllKeepers i keepers → AreGivenBack i (calling_hands passes ++ keeping_hands keepers)
+given_back i passes keepers all are =
+    record {
+      all = all_there i passes keepers all are;
+      idle = all_idle i passes (keeping_hands keepers) all.of (keepers_idle i keepers are.of);
     }
 
 -- where there is one part, its keeper is all of them
@@ -153,21 +179,21 @@ one_keeper i keeper one is =
 
 -- ---- nobody holds a lock ----
 
-taker : (o : Opening) (t : Execution) (b : ℕ) (d : Action) → Allowed o t b d → IsBuilt d →
+taker : (o : Opening) (t : Execution) (b : ℕ) (d : Action) → Allowed o t b d → IsNoRebuild d →
     TakesLock d → IsCaller o b
-taker o t b (Lock place expected) may built takes = may.reading.caller
-taker o t b (Close place expected) may built takes = absurd built
-taker o t b d may built takes = absurd takes
+taker o t b (Lock place expected) may none_rebuilt takes = may.reading.caller
+taker o t b (Close place expected) may none_rebuilt takes = absurd none_rebuilt
+taker o t b d may none_rebuilt takes = absurd takes
 
 -- callers alone take locks
-no_caller_none : (o : Opening) (t : Execution) → Valid o t → AreBuilt t → (hand : ℕ) →
+no_caller_none : (o : Opening) (t : Execution) → Valid o t → HasNoRebuild t → (hand : ℕ) →
     (IsCaller o hand → ⊥) → HoldsNoLock o hand t
-no_caller_none o [] valid built hand other = holds_no_lock_first o hand
-no_caller_none o (e ∷ t) valid built hand other =
+no_caller_none o [] valid none_rebuilt hand other = holds_no_lock_first o hand
+no_caller_none o (e ∷ t) valid none_rebuilt hand other =
     holds_no_lock_after o hand e.by e.action t
     (λ takes same. other
-    (subst (IsCaller o) same (taker o t e.by e.action valid.0 built.0 takes)))
-    (no_caller_none o t valid.1 built.1 hand other)
+    (subst (IsCaller o) same (taker o t e.by e.action valid.0 none_rebuilt.0 takes)))
+    (no_caller_none o t valid.1 none_rebuilt.1 hand other)
 
 outside_on : (hand : ℕ) (earlier later : Execution) → ContinuesWithout hand earlier later →
     IsOutside hand earlier → IsOutside hand later
@@ -185,19 +211,36 @@ ended_outside b (h ∷ hs) t n outside ends there =
     (outside_on h.number (known h) t ends.0 outside.1))
     (λ (z : In n (numbers_of hs)). ended_outside b hs t n outside.2 ends.1 z) there
 
--- once all hands are outside the words are at rest
+-- at the end a keeper made no step still
+ended_idle : (o : Opening) (hands : List Hand) (t : Execution) (n : ℕ) → KeepersAreIdle o hands →
+    EndsFor hands t → IsKeeper o n → In n (numbers_of hands) → Without n t
+ended_idle o [] t n idle ends keeper there = absurd there
+ended_idle o (h ∷ hs) t n idle ends keeper there =
+    ⊎_elim
+    (λ (z : n ≡ h.number).
+    let on = ends.0 in
+    subst (λ (m : ℕ). Without m t) (sym z)
+    (subst (Without h.number) on.1
+    (without_append h.number on.0 (known h) on.2 (idle.0 (subst (IsKeeper o) z keeper)))))
+    (λ (z : In n (numbers_of hs)). ended_idle o hs t n idle.1 ends.1 keeper z) there
+
+-- once all hands are given back the words are at rest
 pub at_rest : (i : Index) (l : Layout) (hands : List Hand) (words : List ℕ) →
-    l ≡ (opening_with i).layout → AreAllHands i.board hands →
+    l ≡ (opening_with i).layout → AreGivenBack i hands →
     (leaves : Leaves (opening_with i) hands words) →
     LeaveAtRest l words (opening_with i) leaves.execution
-at_rest i l hands words layout all leaves =
+at_rest i l hands words layout given leaves =
     let o = opening_with i in
     let t = leaves.execution in
+    let all = given.all in
+    let none_rebuilt = nothing_rebuilt o t leaves.valid
+    (λ part is_part.
+    ended_idle o hands t ((limits o).callers + part) given.idle leaves.ends (omega arith)
+    (all.each ((limits o).callers + part) (omega arith))) in
     record {
       layout = sym layout;
-      empty = i.empty;
       valid = leaves.valid;
-      built = leaves.built;
+      none_rebuilt = none_rebuilt;
       stand_for = leaves.left;
       unlocked = λ hand. ⊎_elim
           (λ (caller : hand < (limits o).callers).
@@ -205,7 +248,7 @@ at_rest i l hands words layout all leaves =
           (ended_outside i.board hands t hand all.outside leaves.ends
           (all.each hand (omega arith))))
           (λ (above : (limits o).callers ≤ hand).
-          no_caller_none o t leaves.valid leaves.built hand
+          no_caller_none o t leaves.valid none_rebuilt hand
           (λ (caller : IsCaller o hand). omega arith))
           (less_or_not hand (limits o).callers);
     }
@@ -240,7 +283,7 @@ closed i passes keepers pairs all are read =
     let ends = ends_for passes (keeping_hands keepers) t read.leaves.ends in
     let lawful = legal o t read.leaves.valid in
     let left = read.tells o t
-    (at_rest i o.layout hands read.words refl (all_there i passes keepers all are) read.leaves) in
+    (at_rest i o.layout hands read.words refl (given_back i passes keepers all are) read.leaves) in
     record {
       execution = t;
       ends = ends;

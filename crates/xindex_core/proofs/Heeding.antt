@@ -14,13 +14,13 @@ use Rattle.xindex_core.specs.Notes.{HeedsNews}
 use Rattle.xindex_core.specs.Passes.{IsPassOf}
 use Rattle.xindex_core.proofs.Sections.{later, truthful}
 
-spare_heeded : (b : Board) (h k : Hand) (news : Execution) → notes.Heeds b h news k →
+pub spare_heeded : (b : Board) (h k : Hand) (news : Execution) → notes.Heeds b h news k →
     (spare : Option PrivateRow) → HasSpare b h spare → HasSpare b k spare
 spare_heeded b h k news m (Some row) held = heeds_holds b h k news m (place_of_private row) held
 spare_heeded b h k news m None none = heeds_holds_none b h k news m none
 
 pub heeds : (i : Index) (p : Pass) (k : Hand) (news : Execution) → IsPassOf i p →
-    notes.Heeds i.board p.hand news k → HeedsNews i p news (record { hand = k; spare = p.spare })
+    notes.Heeds i.board p.hand news k → HeedsNews i p news (record { hand = k; spare = p.spare; probes = p.probes })
 heeds i p k news of m =
     record {
       of = record {
@@ -32,6 +32,7 @@ heeds i p k news of m =
       number = m.number;
       log = m.log;
       spare = refl;
+      probes = refl;
       knows = m.knows;
       own = m.own;
       told = m.told;

@@ -1,5 +1,7 @@
 pub mod Sections
+pub mod Inside
 pub mod Trying
+pub mod HeldCalls
 pub mod Heeding
 pub mod Opens
 pub mod Waits
@@ -7,3 +9,5 @@ pub mod AloneSteps
 pub mod Names
 pub mod OneOrder
 pub mod AllPasses
+pub mod Idle
+pub mod OpenedRows

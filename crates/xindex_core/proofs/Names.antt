@@ -62,6 +62,7 @@ module _ (table : TableId) (opening : Option Opening) (i j : Index)
         number = subst
             (λ (o : Opening). IsPartKeeper o keeper.hand.number (part_kept_by keeper))
             opening_is of.number;
+        idle = of.idle;
       }
 
 pub names_settle : NamesSettleTheIndex

@@ -1,219 +1,103 @@
 -- What the calls of one read section tell from outside of it.
-use Rattle.std.proofs.Common.{◌≡◌, ℕ, Option, Some, None, [], ◌∷◌, ◌++◌, length}
-use Rattle.std.proofs.Common.{refl, sym, ap, ◌∙◌, subst, arith, ◌⊎◌, inl, inr}
+use Rattle.std.proofs.Common.{◌≡◌, ℕ, Option, Some, None, MatchOption, ap, ◌∙◌, subst, arith}
+use Rattle.map_model.specs.declared.calls.Answer.{Answer}
+use Rattle.map_model.specs.declared.calls.Answer.TheVariants as answer
+use Rattle.map_model.specs.declared.calls.Call.{Call}
 use Rattle.map_model.specs.declared.calls.Call.TheVariants as call
-use Rattle.map_model.specs.declared.entries.Change.{Change}
-use Rattle.map_model.specs.declared.entries.Change.TheVariants as change
-use Rattle.map_model.specs.declared.entries.Entry.TheVariants.{Look, Made}
-use Rattle.map_model.specs.Answer.{pair_at}
-use Rattle.word_layout.specs.Words.{Word}
-use Rattle.index_machine.specs.declared.events.Action.{Action}
+use Rattle.map_model.specs.Answer.{entry_of}
+use Rattle.map_model.specs.Logs.{place_of}
 use Rattle.index_machine.specs.declared.events.Action.TheVariants.{Enter, Leave}
-use Rattle.index_machine.specs.Execution.{Continues, Execution, event}
-use Rattle.index_machine.specs.LivePlaces.{history}
-use Rattle.index_machine.proofs.Executions.{continues_trans}
+use Rattle.index_machine.specs.Execution.{Continues}
 use Rattle.index_rule.specs.declared.board.Board.{Board}
 use Rattle.index_rule.specs.declared.hand.Hand.{Hand}
 use Rattle.index_rule.specs.declared.rows.PrivateRow.{PrivateRow}
+use Rattle.index_rule.specs.Hands.{IsHandOf, Makes, known, opening_of}
 use Rattle.tried_calls.specs.declared.tried.Tried.{Tried}
-use Rattle.tried_calls.specs.declared.tried.Tried.TheVariants as tried
-use Rattle.tried_calls.specs.declared.tried.Why.TheVariants as why
-use Rattle.index_rule.specs.Hands.{IsHandOf, Makes, known, opening_of, view}
-use Rattle.index_rule.specs.Moments.{AddsChange, AddsNoEntry, IsWithin}
-use Rattle.point_calls.specs.Changing.{LosesLock, MeetsLast}
-use Rattle.point_calls.specs.Getting.{GetTells}
-use Rattle.delta_buffer.specs.Walks.{MakesIn}
-use Rattle.point_calls.specs.PointCalls.{HasSpare, LooksUp, MakesThen}
-use Rattle.point_calls.specs.Putting.{LosesHead, LosesLink, MeetsNoRow, PutTells}
-use Rattle.point_calls.specs.Removing.{RemoveTells}
+use Rattle.point_calls.specs.PointCalls.{HasSpare}
 use Rattle.point_calls.proofs.Knowing.{spare_on}
 use Rattle.row_arena.specs.Fullness.{RowsAreUsedUp}
 use Rattle.row_arena.proofs.UsedRows.{used_up_stay}
-use Rattle.xindex_core.specs.Answering.{HasNoRoom, IsExhausted}
-use Rattle.xindex_core.specs.Tries.{EndsAs}
-use Rattle.xindex_core.proofs.Sections.{caller_by, changes_grow, log_is, log_with, moment_is}
-use Rattle.xindex_core.proofs.Sections.{on_leave}
-
--- ---- what a call inside went on from ----
-
--- a moment of a call lies behind what the hand knew before it, and before what it knows then
-pub within_since : (h k : Hand) (moment : Execution) → IsWithin h k moment →
-    Continues (known h) (known k)
-within_since h k moment w =
-    continues_trans (known h) moment (known k)
-    (continues_trans (known h) (w.1 ++ known h) moment (w.1, refl) w.4) w.5
-
-pub made_since : (h k : Hand) (d : Action) → MakesIn h d k → Continues (known h) (known k)
-made_since h k d m =
-    continues_trans (known h) m.0 (known k) m.1
-    (continues_trans m.0 (event h.number d ∷ m.0) (known k) (event h.number d ∷ [], refl) m.2)
-
-then_since : (h : Hand) (w : Word) (k : Hand) (first other : Action) →
-    MakesThen h w first other k → Continues (known h) (known k)
-then_since h w k first other m =
-    let there : Execution = event h.number first ∷ m.0 in
-    continues_trans (known h) m.0 (known k) m.2
-    (continues_trans m.0 there (known k) (event h.number first ∷ [], refl)
-    (continues_trans there (event h.number other ∷ m.1 ++ there) (known k)
-    (event h.number other ∷ m.1, refl) m.3))
-
-pub get_since : (b : Board) (key : ℕ) (h : Hand) (came : Tried (Option ℕ)) (k : Hand) →
-    GetTells b key h came k → Continues (known h) (known k)
-get_since b key h (tried.Done found) k t = within_since h k t.0 t.1
-get_since b key h (tried.Again (why.Locked p w)) k t = within_since h k _ t.1.within
-get_since b key h (tried.Again (why.Changed p x y)) k t = then_since h _ k _ _ t.1.loads
-get_since b key h (tried.Again (why.Frozen g w)) k t = absurd t.1
-get_since b key h (tried.Again (why.Raced p x y)) k t = absurd t.1
-get_since b key h tried.Full k t = absurd t
-get_since b key h (tried.Worn p w) k t = absurd t
-
-pub remove_since : (b : Board) (key : ℕ) (h : Hand) (came : Tried (Option ℕ)) (k : Hand) →
-    RemoveTells b key h came k → Continues (known h) (known k)
-remove_since b key h (tried.Done None) k t = within_since h k t.0 t.1
-remove_since b key h (tried.Done (Some old)) k t = within_since h k t.0 t.1
-remove_since b key h (tried.Again (why.Locked p w)) k t = within_since h k _ t.1.within
-remove_since b key h (tried.Again (why.Changed p x y)) k t = absurd t.1
-remove_since b key h (tried.Again (why.Frozen g w)) k t = absurd t.1
-remove_since b key h (tried.Again (why.Raced p x y)) k t = then_since h _ k _ _ t.1.steps
-remove_since b key h tried.Full k t = absurd t
-remove_since b key h (tried.Worn p w) k t = made_since h k _ t.1.loaded
-
-raced_since : (b : Board) (key : ℕ) (h : Hand) (a x y : ℕ) (k : Hand) →
-    LosesLock b key h a x y k ⊎ (LosesLink b h a x y k ⊎ LosesHead h a x y k) →
-    Continues (known h) (known k)
-raced_since b key h a x y k (inl lock) = then_since h _ k _ _ lock.steps
-raced_since b key h a x y k (inr (inl link)) = then_since h _ k _ _ link.steps
-raced_since b key h a x y k (inr (inr head)) = then_since h _ k _ _ head.steps
-
-pub put_since : (b : Board) (key value : ℕ) (h : Hand) (came : Tried (Option ℕ)) (k : Hand) →
-    PutTells b key value h came k → Continues (known h) (known k)
-put_since b key value h (tried.Done old) k t = within_since h k t.0 t.1
-put_since b key value h (tried.Again (why.Locked p w)) k t = within_since h k _ t.1.within
-put_since b key value h (tried.Again (why.Changed p x y)) k t = then_since h _ k _ _ t.1.loads
-put_since b key value h (tried.Again (why.Frozen g w)) k t = made_since h k _ t.1.loaded
-put_since b key value h (tried.Again (why.Raced p x y)) k t = raced_since b key h p x y k t.1
-put_since b key value h tried.Full k t = made_since h k _ t.1.0
-put_since b key value h (tried.Worn p w) k t = made_since h k _ t.1.loaded
-
--- ---- from outside ----
+use Rattle.xindex_core.specs.Answering.{AddsEntry, AddsNone, HasNoRoom, IsExhausted, Tells}
+use Rattle.xindex_core.specs.Tries.{EndsAs, answer_of}
+use Rattle.xindex_core.proofs.Sections.{caller_by, changes_grow, log_is, log_with, moment_is, on_leave}
 
 module _ (b : Board) (h inside done k : Hand) (n m : ℕ) (of : IsHandOf b h)
     (enters : Makes b h (Enter n) inside) (at : IsHandOf b done)
     (number : done.number ≡ inside.number) (leaves : Makes b done (Leave m) k) where
-  -- a look inside is the entry of the call
-  looked : (key : ℕ) (found : Option ℕ) → LooksUp b key inside found done →
-      (moment : Execution) × IsWithin h k moment
-      × ((view k).log ≡ Look (length (history moment)) key key (pair_at key found) ∷ (view h).log)
-  looked key found t = (
-    t.0,
-    moment_is b h inside done k n m of enters at number leaves t.0 t.1,
-    log_with b h inside done k n m of enters at number leaves _ t.3,
-  )
+  left : Continues (known done) (known k)
+  left = on_leave b h inside done k n m of enters at number leaves
 
-  -- and so is a change
-  changed : (d : Change) (old : Option ℕ) → AddsChange b inside d old done →
-      (moment : Execution) × IsWithin h k moment
-      × ((view k).log ≡ Made (length (history moment)) d old ∷ (view h).log)
-  changed d old t = (
-    t.0,
-    moment_is b h inside done k n m of enters at number leaves t.0 t.1,
-    log_with b h inside done k n m of enters at number leaves _ t.3,
-  )
-
-  -- the change is by the caller
-  caller_is : inside.number ≡ k.number
-  caller_is = sym (leaves.number ∙ number)
-
-  none_added : AddsNoEntry inside done → AddsNoEntry h k
-  none_added = log_is b h inside done k n m of enters at number leaves
-
-  exhausted : (key place word : ℕ) → AddsNoEntry inside done →
-      MeetsLast b key inside place word done → IsExhausted (caller_by b h) key (caller_by b k)
-  exhausted key place word none meets =
-      let w = moment_is b h inside done k n m of enters at number leaves meets.moment meets.within in
-      let grown = changes_grow key meets.moment (known k) w.5 in
-      let enough = meets.enough in
-      record { no_entry = none_added none; enough = omega arith }
-
-  pub get_tells : (key : ℕ) (came : Tried (Option ℕ)) → GetTells b key inside came done →
-      EndsAs (caller_by b h) (call.Get key) came (caller_by b k)
-  get_tells key (tried.Done found) t =
-      let l = looked key found t in
+  -- an entry that was added inside is that of the call
+  entry : (made : Call) (came : Answer) → AddsEntry (caller_by b inside) made came (caller_by b done) →
+      AddsEntry (caller_by b h) made came (caller_by b k)
+  entry made came adds =
       record {
-        moment = l.0;
-        within = l.1;
-        entry = Look (length (history l.0)) key key (pair_at key found);
-        is = refl;
-        place = refl;
-        added = l.2;
+        moment = adds.moment;
+        within = moment_is b h inside done k n m of enters at number leaves adds.moment adds.within;
+        entry = adds.entry;
+        is = ap (λ (z : ℕ). entry_of z (place_of adds.entry) made came) leaves.number ∙ adds.is;
+        place = adds.place;
+        added = log_with b h inside done k n m of enters at number leaves adds.entry adds.added;
       }
-  get_tells key (tried.Again cause) t = none_added t.0
-  get_tells key tried.Full t = absurd t
-  get_tells key (tried.Worn place word) t = absurd t
 
-  pub remove_tells : (key : ℕ) (came : Tried (Option ℕ)) → RemoveTells b key inside came done →
-      EndsAs (caller_by b h) (call.Remove key) came (caller_by b k)
-  remove_tells key (tried.Done None) t =
-      let l = looked key None t in
-      record {
-        moment = l.0;
-        within = l.1;
-        entry = Look (length (history l.0)) key key None;
-        is = refl;
-        place = refl;
-        added = l.2;
-      }
-  remove_tells key (tried.Done (Some old)) t =
-      let l = changed (change.Remove inside.number key) (Some old) t in
-      record {
-        moment = l.0;
-        within = l.1;
-        entry = Made (length (history l.0)) (change.Remove k.number key) (Some old);
-        is = refl;
-        place = refl;
-        added = l.2
-            ∙ ap
-            (λ (z : ℕ).
-            Made (length (history l.0)) (change.Remove z key) (Some old) ∷ (view h).log)
-            caller_is;
-      }
-  remove_tells key (tried.Again cause) t = none_added t.0
-  remove_tells key tried.Full t = absurd t
-  remove_tells key (tried.Worn place word) t = exhausted key place word t.0 t.1
-
-  pub no_room : (key : ℕ) → AddsNoEntry inside done → MeetsNoRow b key inside done →
+  no_room : (key : ℕ) → HasNoRoom (caller_by b inside) key (caller_by b done) →
       HasNoRoom (caller_by b h) key (caller_by b k)
-  no_room key none meets =
-      let missing = meets.1 in
-      let on = on_leave b h inside done k n m of enters at number leaves in
+  no_room key none =
       record {
-        no_entry = none_added none;
-        moment = missing.0;
-        within = moment_is b h inside done k n m of enters at number leaves missing.0 missing.1;
-        absent = missing.2;
-        used_up = subst (RowsAreUsedUp (opening_of b)) on.1
-            (used_up_stay (opening_of b) on.0 (known done) meets.2);
+        no_entry = log_is b h inside done k n m of enters at number leaves none.no_entry;
+        moment = none.moment;
+        within = moment_is b h inside done k n m of enters at number leaves none.moment none.within;
+        absent = none.absent;
+        used_up = subst (RowsAreUsedUp (opening_of b)) left.1
+            (used_up_stay (opening_of b) left.0 (known done) none.used_up);
       }
 
-  pub put_tells : (key value : ℕ) (came : Tried (Option ℕ)) →
-      PutTells b key value inside came done →
-      EndsAs (caller_by b h) (call.Put key value) came (caller_by b k)
-  put_tells key value (tried.Done old) t =
-      let l = changed (change.Put inside.number key value) old t in
+  exhausted : (key : ℕ) → IsExhausted (caller_by b inside) key (caller_by b done) →
+      IsExhausted (caller_by b h) key (caller_by b k)
+  exhausted key last =
+      let grown = changes_grow key (known done) (known k) left in
+      let enough = last.enough in
       record {
-        moment = l.0;
-        within = l.1;
-        entry = Made (length (history l.0)) (change.Put k.number key value) old;
-        is = refl;
-        place = refl;
-        added = l.2
-            ∙ ap
-            (λ (z : ℕ). Made (length (history l.0)) (change.Put z key value) old ∷ (view h).log)
-            caller_is;
+        no_entry = log_is b h inside done k n m of enters at number leaves last.no_entry;
+        enough = omega arith;
       }
-  put_tells key value (tried.Again cause) t = none_added t.0
-  put_tells key value tried.Full t = no_room key t.0 t.1
-  put_tells key value (tried.Worn place word) t = exhausted key place word t.0 t.1
+
+  tells : (made : Call) (came : Answer) → Tells (caller_by b inside) made came (caller_by b done) →
+      Tells (caller_by b h) made came (caller_by b k)
+  tells (call.Put key value) answer.Full t = no_room key t
+  tells (call.Get key) answer.Full t = absurd t
+  tells (call.Remove key) answer.Full t = absurd t
+  tells (call.Next from) answer.Full t = absurd t
+  tells (call.Put key value) answer.Worn t = exhausted key t
+  tells (call.Remove key) answer.Worn t = exhausted key t
+  tells (call.Get key) answer.Worn t = absurd t
+  tells (call.Next from) answer.Worn t = absurd t
+  tells (call.Get key) (answer.Value found) t = entry (call.Get key) (answer.Value found) t
+  tells (call.Get key) (answer.Old old) t = entry (call.Get key) (answer.Old old) t
+  tells (call.Get key) (answer.Near near) t = entry (call.Get key) (answer.Near near) t
+  tells (call.Put key value) (answer.Value found) t = entry (call.Put key value) (answer.Value found) t
+  tells (call.Put key value) (answer.Old old) t = entry (call.Put key value) (answer.Old old) t
+  tells (call.Put key value) (answer.Near near) t = entry (call.Put key value) (answer.Near near) t
+  tells (call.Remove key) (answer.Value found) t = entry (call.Remove key) (answer.Value found) t
+  tells (call.Remove key) (answer.Old old) t = entry (call.Remove key) (answer.Old old) t
+  tells (call.Remove key) (answer.Near near) t = entry (call.Remove key) (answer.Near near) t
+  tells (call.Next from) (answer.Value found) t = entry (call.Next from) (answer.Value found) t
+  tells (call.Next from) (answer.Old old) t = entry (call.Next from) (answer.Old old) t
+  tells (call.Next from) (answer.Near near) t = entry (call.Next from) (answer.Near near) t
+
+  -- what a call ended as inside it ended as
+  pub ends_outside : (made : Call) (came : Tried (Option ℕ)) →
+      EndsAs (caller_by b inside) made came (caller_by b done) →
+      EndsAs (caller_by b h) made came (caller_by b k)
+  ends_outside made came ends = by_answer (answer_of made came) ends
+    where
+      by_answer : (x : Option Answer) →
+          MatchOption x (AddsNone (caller_by b inside) (caller_by b done))
+          (λ (a : Answer). Tells (caller_by b inside) made a (caller_by b done)) →
+          MatchOption x (AddsNone (caller_by b h) (caller_by b k))
+          (λ (a : Answer). Tells (caller_by b h) made a (caller_by b k))
+      by_answer None none = log_is b h inside done k n m of enters at number leaves none
+      by_answer (Some a) t = tells made a t
 
 -- ---- the spare row ----
 

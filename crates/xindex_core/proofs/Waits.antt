@@ -236,4 +236,5 @@ next_tries i old from came new tries =
       steps = tries.steps;
       full = tries.full;
       spare = tries.spare;
+      probes = tries.probes;
     }

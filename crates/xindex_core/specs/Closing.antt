@@ -5,14 +5,16 @@ use Rattle.std.specs.Prelude.{◌≡◌, ℕ, ◌+◌, List, [], ◌∷◌, leng
 use Rattle.map_model.specs.History.{History, IsLegal, after}
 use Rattle.map_model.specs.Logs.{IsLogOf}
 use Rattle.map_model.specs.Map.{IsRising, Map}
-use Rattle.index_machine.specs.Execution.{ContinuesWithout, Execution}
+use Rattle.index_machine.specs.declared.opening.Opening.{Opening}
+use Rattle.index_machine.specs.Execution.{ContinuesWithout, Execution, Without}
 use Rattle.index_machine.specs.Lists.{In}
 use Rattle.index_machine.specs.LivePlaces.{history}
 use Rattle.index_machine.specs.Openings.{opening_map}
-use Rattle.index_machine.specs.Keepers.{IsPart}
+use Rattle.index_machine.specs.Keepers.{IsKeeper, IsPart}
 use Rattle.index_machine.specs.Sections.{IsCaller}
 use Rattle.machine_places.specs.Agreement.{AreByCallers}
-use Rattle.index_rule.specs.Ended.{Leaves}
+use Rattle.index_rule.specs.Ended.{AreAllHands, Leaves}
+use Rattle.index_rule.specs.Hands.{known}
 use Rattle.index_rule.specs.declared.hand.Hand.{Hand}
 use Rattle.resting_table.specs.Resting.{TellPairs}
 use Rattle.xindex_core.specs.declared.index.Index.{Index}
@@ -96,6 +98,17 @@ calling_hands (p ∷ ps) = p.hand ∷ calling_hands ps
 abbrev pub keeping_hands : List Keeper → List Hand
 keeping_hands [] = []
 keeping_hands (k ∷ ks) = k.hand ∷ keeping_hands ks
+
+-- those of these hands that are keepers' made no step
+abbrev pub KeepersAreIdle : Opening → List Hand → Type 0
+KeepersAreIdle o [] = Unit {0}
+KeepersAreIdle o (h ∷ hs) =
+    (IsKeeper o h.number → Without h.number (known h)) × KeepersAreIdle o hs
+
+-- all hands of the index are there, outside of any read section, and the keepers' made no step
+pub record AreGivenBack (i : Index) (hands : List Hand) : Type 0 where
+  pub all : AreAllHands i.board hands
+  pub idle : KeepersAreIdle (opening_with i) hands
 
 -- these pairs were read of the words that some execution left, once these hands were given up
 pub record IsReadBack (i : Index) (hands : List Hand) (pairs : Map) : Type 0 where

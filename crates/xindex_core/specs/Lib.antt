@@ -2,7 +2,10 @@ pub mod Callers
 pub mod Answering
 pub mod Passes
 pub mod Opened
+pub mod Refusals
 pub mod Tries
+pub mod Held
+pub mod HeldTries
 pub mod Notes
 pub mod OneProof
 pub mod Naming

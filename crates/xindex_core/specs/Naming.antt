@@ -1,12 +1,13 @@
 -- The name of an index, and what is of the index with a name.
 --
 -- The fact to remember: each of these facts has one proof at most, so it can stand in a type.
-use Rattle.std.specs.Prelude.{◌≡◌, Option, Some, None}
+use Rattle.std.specs.Prelude.{◌≡◌, ℕ, Option, Some, None, [], ◌∷◌}
 use Rattle.std.proofs.Props.{props}
 use base.Stored.{Coded-set}
 use Rattle.atomic_table.specs.Seated.{TableId, table_id_coded}
 use Rattle.index_machine.specs.declared.opening.Opening.{Opening}
 use Rattle.index_machine.specs.contracts.opening.Opening.{the_row}
+use Rattle.index_machine.specs.Execution.{Execution, Without}
 use Rattle.index_machine.specs.Rows.{Role}
 use Rattle.index_rule.specs.declared.board.Board.{Board}
 use Rattle.index_rule.specs.declared.hand.Hand.{Hand}
@@ -16,7 +17,8 @@ use Rattle.xindex_core.specs.declared.index.Index.{Index}
 use Rattle.xindex_core.specs.declared.keeper.Keeper.{Keeper}
 use Rattle.xindex_core.specs.declared.pass.Pass.{Pass}
 use Rattle.xindex_core.specs.OneProof.{IsTruthful-prop}
-use Rattle.xindex_core.specs.Passes.{IsKeeperOf, IsPassOf, caller_with, name_of, opening_with}
+use Rattle.xindex_core.specs.Passes.{IsKeeperOf, IsPassOf, caller_with, known_to_keeper, name_of}
+use Rattle.xindex_core.specs.Passes.{opening_with}
 
 -- ---- names ----
 
@@ -71,10 +73,21 @@ IsPassOf-prop i p =
     let truthful = IsTruthful-prop (caller_with i p) in
     Prim.hlevel (props, Opening-set, TableId-set, spare, truthful)
 
+-- that a hand has made no step
+Without-prop : (hand : ℕ) (t : Execution) → IsProp (Without hand t)
+Without-prop hand [] = Prim.hlevel props
+Without-prop hand (e ∷ t) = let rest = Without-prop hand t in Prim.hlevel (props, rest)
+
+-- that the keeper is one of an index
+pub IsKeeperOf-prop : (i : Index) (keeper : Keeper) → IsProp (IsKeeperOf i keeper)
+IsKeeperOf-prop i keeper =
+    let idle = Without-prop keeper.hand.number (known_to_keeper keeper) in
+    Prim.hlevel (props, Opening-set, TableId-set, idle)
+
 -- that the keeper is the one of an index with a name
 pub IsKeeperOfName-prop : (table : TableId) (opening : Option Opening) (keeper : Keeper) →
     IsProp (IsKeeperOfName table opening keeper)
-IsKeeperOfName-prop table opening keeper = Prim.hlevel (props, Opening-set, TableId-set)
+IsKeeperOfName-prop table opening keeper = Prim.hlevel IsKeeperOf-prop
 
 -- that a pass is one of such an index
 pub IsPassOfName-prop : (table : TableId) (opening : Option Opening) (pass : Pass) →

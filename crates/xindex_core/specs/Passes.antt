@@ -4,7 +4,7 @@ use Rattle.atomic_table.specs.Seated.{TableId}
 use Rattle.word_layout.specs.declared.limits.Limits.{Limits}
 use Rattle.index_machine.specs.declared.opening.Opening.{Opening}
 use Rattle.index_machine.specs.Conditions.{MayEnter}
-use Rattle.index_machine.specs.Execution.{Execution}
+use Rattle.index_machine.specs.Execution.{Execution, Without}
 use Rattle.index_machine.specs.Keepers.{IsPart, IsPartKeeper}
 use Rattle.word_layout.specs.Layout.{bounds_of}
 use Rattle.index_machine.specs.Words.{limits}
@@ -55,6 +55,10 @@ log_of p = (view p.hand).log
 abbrev pub spare_of : Pass → Option PrivateRow
 spare_of p = p.spare
 
+-- how many keys the calls of the caller compared in windows
+abbrev pub probes_of : Pass → ℕ
+probes_of p = p.probes
+
 -- the pass as a caller of the index
 abbrev pub caller_with : Index → Pass → Caller
 caller_with i p =
@@ -84,11 +88,12 @@ IsNoteOf i note = board.IsNoteOf i.board note
 abbrev pub part_kept_by : Keeper → ℕ
 part_kept_by keeper = keeper.part
 
--- the keeper is the one of its part of the index
+-- the keeper is the one of its part of the index, and its hand has made no step yet
 pub record IsKeeperOf (i : Index) (keeper : Keeper) : Type 0 where
   pub of : IsHandOf i.board keeper.hand
   pub is_part : IsPart (opening_with i) (part_kept_by keeper)
   pub number : IsPartKeeper (opening_with i) keeper.hand.number (part_kept_by keeper)
+  pub idle : Without keeper.hand.number (known keeper.hand)
 
 -- the beginning of the execution that the keeper knows
 abbrev pub known_to_keeper : Keeper → Execution
@@ -106,5 +111,5 @@ AreNewKeepers i part (k ∷ ks) =
 abbrev pub AreNewPasses : Index → ℕ → List Pass → Type 0
 AreNewPasses i number [] = Unit {0}
 AreNewPasses i number (p ∷ ps) =
-    IsPassOf i p × (number_of p ≡ number) × (known_to p ≡ []) × (log_of p ≡ [])
+    IsPassOf i p × (number_of p ≡ number) × (known_to p ≡ []) × (log_of p ≡ []) × (probes_of p ≡ 0)
     × AreNewPasses i (number + 1) ps

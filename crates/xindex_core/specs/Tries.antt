@@ -14,17 +14,18 @@ use Rattle.index_rule.specs.declared.rows.PrivateRow.{PrivateRow}
 use Rattle.tried_calls.specs.declared.tried.Tried.{Tried}
 use Rattle.tried_calls.specs.declared.tried.Tried.TheVariants as tried
 use Rattle.index_rule.specs.Hands.{Makes, known}
+use Rattle.point_calls.specs.Arrays.{CountsOnce}
 use Rattle.point_calls.specs.Exchanges.{ExchangeCounts, MakesFewExchanges}
 use Rattle.point_calls.specs.Exchanges.{no_exchange, one_lock, one_of_each}
 use Rattle.point_calls.specs.Getting.{GetTells}
 use Rattle.point_calls.specs.PointCalls.{IsOneSection}
-use Rattle.point_calls.specs.Putting.{KeepsSpare, PutTells}
+use Rattle.point_calls.specs.Putting.{KeepsSpare, LeavesNone, PutTells}
 use Rattle.point_calls.specs.Removing.{RemoveTells}
 use Rattle.xindex_core.specs.declared.index.Index.{Index}
 use Rattle.xindex_core.specs.declared.pass.Pass.{Pass}
 use Rattle.xindex_core.specs.Answering.{AddsNone, Tells}
 use Rattle.xindex_core.specs.Callers.{Caller, IsLater}
-use Rattle.xindex_core.specs.Passes.{caller_with, spare_of}
+use Rattle.xindex_core.specs.Passes.{caller_with, probes_of, spare_of}
 
 -- ---- answers ----
 
@@ -70,6 +71,13 @@ StepsTell b (call.Next from) h came k = GetTells b from h came k
 StepsTell b (call.Put key value) h came k = PutTells b key value h came k
 StepsTell b (call.Remove key) h came k = RemoveTells b key h came k
 
+-- the key that the call is on; what stands next is sought from its own on
+abbrev pub key_of_call : Call → ℕ
+key_of_call (call.Get key) = key
+key_of_call (call.Put key value) = key
+key_of_call (call.Remove key) = key
+key_of_call (call.Next from) = from
+
 -- how many exchanges the call makes at most: a get none, a remove one of a version lock, and a put one of
 -- a version lock, one of the head of the free stack and one of a link
 abbrev pub most_exchanges : Call → ExchangeCounts
@@ -80,12 +88,12 @@ most_exchanges (call.Remove key) = one_lock
 
 -- ---- the spare row ----
 
--- what becomes of the spare row: a put uses it up only where its key had no value, and the other
--- calls leave it
+-- what becomes of the spare row: a put uses it up only where its key had no value, and leaves one only where it lost
+-- an exchange; the other calls leave it
 abbrev pub SpareBecomes : Call → Option PrivateRow → Tried (Option ℕ) → Option PrivateRow → Type 0
 SpareBecomes (call.Get key) old came new = new ≡ old
 SpareBecomes (call.Next from) old came new = new ≡ old
-SpareBecomes (call.Put key value) old came new = KeepsSpare old came new
+SpareBecomes (call.Put key value) old came new = KeepsSpare old came new × LeavesNone old came new
 SpareBecomes (call.Remove key) old came new = new ≡ old
 
 -- ---- a try ----
@@ -98,3 +106,4 @@ pub record Tries (i : Index) (old : Pass) (made : Call) (came : Tried (Option �
   pub steps : EntersAndLeaves i old (most_exchanges made) (λ h k. StepsTell i.board made h came k) new
   pub full : came ≡ tried.Full → spare_of old ≡ None
   pub spare : SpareBecomes made (spare_of old) came (spare_of new)
+  pub probes : CountsOnce i.board (key_of_call made) steps.inside (probes_of old) (probes_of new)

@@ -22,14 +22,14 @@ impl Pass {
     /// The value of the key, or `None`, tried once.
     ///
     /// A value takes effect at its load. `None` does at the load of the state word of the key's row, or
-    /// of the link that passed over the key.
+    /// of the link that passed over the key, in the last buffer where the call looked.
     pub fn try_get(&mut self, index: &Index, key: u64) -> Tried<Option<u64>>
         requires { IsPassOf index.now self.old }
         ensures pass { IsPassOf index.now self.new }
         ensures tries { Tries index.now self.old (call.Get key) result self.new }
     {
         enter(&index.board, &mut self.hand);
-        let answer = get(&index.board, &mut self.hand, key);
+        let answer = get(&index.board, &mut self.hand, key, &mut self.probes);
         leave(&index.board, &mut self.hand);
         answer
     }
@@ -44,7 +44,14 @@ impl Pass {
         ensures tries { Tries index.now self.old (call.Put key value) result self.new }
     {
         enter(&index.board, &mut self.hand);
-        let answer = put(&index.board, &mut self.hand, &mut self.spare, key, value);
+        let answer = put(
+            &index.board,
+            &mut self.hand,
+            &mut self.spare,
+            key,
+            value,
+            &mut self.probes,
+        );
         leave(&index.board, &mut self.hand);
         answer
     }
@@ -58,7 +65,7 @@ impl Pass {
         ensures tries { Tries index.now self.old (call.Remove key) result self.new }
     {
         enter(&index.board, &mut self.hand);
-        let answer = remove(&index.board, &mut self.hand, key);
+        let answer = remove(&index.board, &mut self.hand, key, &mut self.probes);
         leave(&index.board, &mut self.hand);
         answer
     }

@@ -2,13 +2,13 @@
 //!
 //! Memory is taken before anything is given up, so where there is none all is handed back as it was.
 ghost use Rattle.std.specs.Prelude.{◌≡◌, ◌≤◌, ◌+◌, ◌++◌, [], IfErr, IfOk, length, vec_capacity};
-ghost use Rattle.word_layout.specs.Layout.{limits_of, shape_of};
+ghost use Rattle.word_layout.specs.Layout.{shape_of};
 ghost use Rattle.word_layout.specs.Limits.{word_count};
 ghost use Rattle.index_machine.specs.Words.{shape};
-ghost use Rattle.index_rule.specs.Ended.{AreAllHands};
-ghost use Rattle.xindex_core.specs.Closing.{AreAllKeepers, AreAllPasses, IsClosedWith, IsReadBack};
-ghost use Rattle.xindex_core.specs.Closing.{calling_hands, keeping_hands};
-ghost use Rattle.xindex_core.specs.Passes.{IsKeeperOf, bounds_of_index, limits_of_index, opening_with};
+ghost use Rattle.resting_table.specs.Resting.{place_count};
+ghost use Rattle.xindex_core.specs.Closing.{AreAllKeepers, AreAllPasses, AreGivenBack, IsClosedWith};
+ghost use Rattle.xindex_core.specs.Closing.{IsReadBack, calling_hands, keeping_hands};
+ghost use Rattle.xindex_core.specs.Passes.{IsKeeperOf, bounds_of_index, opening_with};
 
 use crate::index::Index;
 use crate::keeper::Keeper;
@@ -67,7 +67,7 @@ impl Error for Unclosed {}
 
 impl Index {
     /// Takes back all passes of an index with one part, in any order, and the keeper, and gives the pairs that
-    /// the whole history leaves, by rising key.
+    /// the rows of the opening and the whole history leave, by rising key.
     pub fn close(
         self,
         alloc: Global,
@@ -101,8 +101,8 @@ impl Index {
         Ok(self.read_back(hands, words, pairs))
     }
 
-    /// Takes back all passes and all keepers, in any order, and gives the pairs that the whole history leaves, by
-    /// rising key.
+    /// Takes back all passes and all keepers, in any order, and gives the pairs that the rows of the opening and the
+    /// whole history leave, by rising key.
     pub fn close_in(
         self,
         alloc: Global,
@@ -135,10 +135,10 @@ impl Index {
 
     // Once all hands are given up, the words are the map.
     fn read_back(self, hands: Vec<Hand>, words: Vec<u64>, pairs: Vec<(u64, u64)>) -> Vec<(u64, u64)>
-        requires hands { AreAllHands self.board hands.items }
+        requires hands { AreGivenBack self hands.items }
         requires words { length words.items ≡ word_count (shape (opening_with self)) }
         requires none { pairs.items ≡ [] }
-        requires room { (limits_of_index self).records ≤ vec_capacity pairs }
+        requires room { place_count (shape (opening_with self)) ≤ vec_capacity pairs }
         ensures { IsReadBack self hands.items result.items }
     {
         let layout = self.board.layout();
@@ -156,20 +156,30 @@ struct Room {
     hands: Vec<Hand>,
 }
 
-// There are no more pairs than record rows.
+// There are no more pairs than places of the table.
 fn room_for(alloc: Global, layout: &Layout, hands: usize) -> Result<Room, AllocError>
     ensures no_pairs { IfOk result (λ room. room.pairs.items ≡ []) }
-    ensures pairs { IfOk result (λ room. (limits_of layout.now).records ≤ vec_capacity room.pairs) }
+    ensures pairs { IfOk result (λ room.
+        place_count (shape_of layout.now) ≤ vec_capacity room.pairs) }
     ensures words { IfOk result (λ room.
         length room.words.items ≡ word_count (shape_of layout.now)) }
     ensures no_hands { IfOk result (λ room. room.hands.items ≡ []) }
     ensures hands { IfOk result (λ room. hands ≤ vec_capacity room.hands) }
 {
     Ok(Room {
-        pairs: Vec::with_capacity(alloc, layout.limits().records as usize)?,
+        pairs: Vec::with_capacity(alloc, places_in(layout))?,
         words: vec![in alloc; 0u64; layout.words() as usize]?,
         hands: Vec::with_capacity(alloc, hands)?,
     })
+}
+
+// How many records the table has places for: its record rows, and the arrays of all groups.
+fn places_in(layout: &Layout) -> usize
+    ensures { result ≡ place_count (shape_of layout.now) }
+{
+    let limits = layout.limits();
+    let groups = layout.parts().count() as usize * limits.groups as usize;
+    limits.records as usize + groups * limits.group_size as usize
 }
 
 fn with_passes(mut hands: Vec<Hand>, passes: Vec<Pass>) -> Vec<Hand>

@@ -1,9 +1,4 @@
 //! What an opened index is, and why there is none.
-ghost use Rattle.std.specs.Prelude.{◌≡◌, []};
-ghost use Rattle.index_rule.specs.Hands.{opening_of};
-ghost use Rattle.index_machine.specs.Openings.{opening_map};
-ghost use Rattle.std.proofs.Props.{props};
-
 use crate::keeper::Keeper;
 use crate::pass::Pass;
 use index_rule::Board;
@@ -17,7 +12,6 @@ use std::fmt;
 #[derive(Drop)]
 pub struct Index {
     pub(crate) board: Board,
-    ghost empty: { opening_map (opening_of board) ≡ [] } by { Prim.hlevel props },
 }
 
 /// An index of one part as it was opened, and all that steps on it.
@@ -44,6 +38,10 @@ pub struct OpenedParts {
 pub enum OpenError {
     /// The limits break this rule, and keep those before it.
     BadLimit { number: u32 },
+    /// The key of the row at this position is not above the one before it; those before it rise.
+    Unsorted { at: usize },
+    /// The plan shares out the rows of a part among so many groups, and a part has fewer; it is the first such part.
+    TooMany { need: u64, have: u64 },
     /// There was not enough memory.
     Memory,
 }
@@ -52,6 +50,13 @@ impl fmt::Display for OpenError {
     fn fmt<W: fmt::Write>(&self, f: &mut fmt::Formatter<W>) -> fmt::Result {
         match self {
             OpenError::BadLimit { number } => write!(f, "bad limit {number}"),
+            OpenError::Unsorted { at } => write!(
+                f,
+                "the key of row {at} is not above the one before it"
+            ),
+            OpenError::TooMany { need, have } => {
+                write!(f, "the rows need {need} groups and there are {have}")
+            }
             OpenError::Memory => write!(f, "out of memory"),
         }
     }

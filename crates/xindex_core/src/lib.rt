@@ -7,6 +7,7 @@
 
 mod calling;
 mod closing;
+mod held;
 mod index;
 mod keeper;
 mod laws;
@@ -14,10 +15,12 @@ mod named;
 mod naming;
 mod opening;
 mod pass;
+mod refusing;
 mod telling;
 mod waiter;
 
 pub use closing::{Unclosed, UnclosedParts};
+pub use held::Held;
 pub use index::{Index, OpenError, Opened, OpenedParts};
 pub use index_rule::Note;
 pub use keeper::Keeper;

@@ -1,28 +1,30 @@
 //! An index is opened, with a pass for each caller and a keeper for each part.
-ghost use Rattle.std.specs.Prelude.{◌≡◌, [], IfErr, IfOk, length};
+ghost use Rattle.std.specs.Prelude.{◌≡◌, IfErr, IfOk, length};
 ghost use Rattle.word_layout.specs.Shape.{in_one_part, parts_in, shape};
 ghost use Rattle.index_machine.specs.Words.{shape as table_shape};
 ghost use Rattle.index_rule.specs.Opened.{HasNewHands};
-ghost use Rattle.xindex_core.specs.Opened.{IsNewlyOpened, IsNewlyOpenedIn, IsRefusal};
+ghost use Rattle.xindex_core.specs.Opened.{IsNewlyOpened, IsNewlyOpenedIn};
+ghost use Rattle.xindex_core.specs.Refusals.{IsRefusal};
 ghost use Rattle.xindex_core.specs.Passes.{AreNewKeepers, AreNewPasses, bounds_of_index, limits_of_index};
 ghost use Rattle.xindex_core.specs.Passes.{opening_with};
 
 use crate::index::{Index, OpenError, Opened, OpenedParts};
 use crate::keeper::Keeper;
 use crate::pass::Pass;
+use crate::refusing::refusal_of;
 use index_rule::{Board, Hand};
+use line_window::Probes;
 use std::alloc::{AllocError, Global};
 use word_layout::{Limits, Parts};
 
 impl Index {
-    /// An index with these limits and one part, which is empty: `rows` has to be so by now. The table takes 8
-    /// bytes a word, and 120 more for each epoch, the head of the free stack and the root word.
+    /// An index with these limits and one part, which holds these rows. The table takes 8 bytes a word, and 120 more
+    /// for each epoch, the head of the free stack and the root word.
     ///
-    /// Limits are refused before any memory is taken.
+    /// Limits and rows are refused before any memory is taken.
     pub fn open(alloc: Global, limits: Limits, rows: &[(u64, u64)]) -> Result<Opened, OpenError>
-        requires { rows.now ≡ [] }
-        ensures opened { IfOk result (IsNewlyOpened limits) }
-        ensures refused { IfErr result (IsRefusal (in_one_part limits)) }
+        ensures opened { IfOk result (IsNewlyOpened limits rows.now) }
+        ensures refused { IfErr result (IsRefusal (in_one_part limits) rows.now) }
     {
         let OpenedParts {
             index,
@@ -37,24 +39,27 @@ impl Index {
         })
     }
 
-    /// An index with these limits and parts, which is empty: `rows` has to be so by now. The table takes 8 bytes
-    /// a word, and 120 more for each epoch, the head of the free stack and each root word.
+    /// An index with these limits and parts, which holds these rows: each part's in its first groups, as many as the
+    /// plan needs. The table takes 8 bytes a word, and 120 more for each epoch, the head of the free stack and each
+    /// root word.
     ///
-    /// Limits are refused before any memory is taken.
+    /// Limits and rows are refused before any memory is taken.
     pub fn open_in(
         alloc: Global,
         limits: Limits,
         parts: Parts,
         rows: &[(u64, u64)],
     ) -> Result<OpenedParts, OpenError>
-        requires { rows.now ≡ [] }
-        ensures opened { IfOk result (IsNewlyOpenedIn limits parts) }
-        ensures refused { IfErr result (IsRefusal (shape limits parts)) }
+        ensures opened { IfOk result (IsNewlyOpenedIn limits parts rows.now) }
+        ensures refused { IfErr result (IsRefusal (shape limits parts) rows.now) }
     {
         let layout = match limits.layout_in(parts) {
             Ok(layout) => layout,
             Err(bad) => return Err(OpenError::BadLimit { number: bad.number }),
         };
+        if let Some(error) = refusal_of(&layout, rows) {
+            return Err(error);
+        }
         let (board, hands) = Board::open(alloc, &layout, rows)?;
         let index = Index { board };
         let (passes, keepers) = shared_out(alloc, &index, hands)?;
@@ -100,7 +105,11 @@ fn shared_out(
     let mut keepers = Vec::new(alloc);
     for hand in hands {
         if passes.len() < callers {
-            passes.push(Pass { hand, spare: None })?;
+            passes.push(Pass {
+                hand,
+                spare: None,
+                probes: Probes::new(),
+            })?;
         } else {
             let part = keepers.len() as u32;
             keepers.push(Keeper { hand, part })?;

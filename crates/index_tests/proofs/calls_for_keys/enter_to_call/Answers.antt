@@ -10,7 +10,6 @@ pub returns : goal.returns
 returns c =
     let inside = c.enter.ensures.inside in
     record {
-      empty = c.requires.empty;
       call = record {
         of = inside.of;
         reading = record { caller = inside.may_leave.caller; inside = inside.may_leave.inside };

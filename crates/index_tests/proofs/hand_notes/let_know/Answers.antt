@@ -17,14 +17,12 @@ knows_as b h k of number same =
       of = of;
       rests = λ n r. record {
         of = of;
-        one_group = r.one_group;
         numbered = number ∙ r.numbered;
         outside = subst (λ (z : ℕ × View). IsOutside z.0 (z.1).known)
             (λ i. (sym number i, sym same i)) r.outside;
       };
       inside = λ n r. record {
         of = of;
-        one_group = r.one_group;
         numbered = number ∙ r.numbered;
         may_leave = subst (λ (z : ℕ × View). MayLeave (opening_of b) z.0 (z.1).known)
             (λ i. (sym number i, sym same i)) r.may_leave;
@@ -46,13 +44,11 @@ returns-clause-second c =
       of = heeds.of;
       rests = λ n r. record {
         of = heeds.of;
-        one_group = r.one_group;
         numbered = heeds.number ∙ r.numbered;
         outside = heeds_outside b h k _ heeds r.outside;
       };
       inside = λ n r. record {
         of = heeds.of;
-        one_group = r.one_group;
         numbered = heeds.number ∙ r.numbered;
         may_leave = heeds_may_leave b h k _ heeds r.may_leave;
       };

@@ -1,14 +1,16 @@
-use Rattle.index_tests.proofs.Groups.{can_read_slot}
-use Rattle.index_tests.proofs.Places.{ready_at_row}
+use Rattle.sorted_group.proofs.ArraySearches.{answered_locates}
+use Rattle.index_tests.proofs.Places.{ready_at}
 use Rattle.index_tests.proofs.records.enter_at.Goals as goal
 
-pub load_slot_group-requires-clause-may : goal.load_slot_group-requires-clause-may
-load_slot_group-requires-clause-may c =
-    can_read_slot c.args.board.now c.enter.new.hand c.load_root.new.hand _ _ c.enter.ensures.inside
-    c.load_root.ensures.step
+pub locate-requires : goal.locate-requires
+locate-requires g c =
+    let there = c.come_to-group.ensures.there in
+    answered_locates c.args.board.now c.come_to-group.result c.args.key c.come_to-group.new.hand there.search
+    there.answers
 
 pub returns-clause-ready : goal.returns-clause-ready
-returns-clause-ready c =
-    ready_at_row c.args.board.now c.enter.new.hand c.load_root.new.hand c.load_slot_group.new.hand _
-    _ _ c.enter.ensures.inside c.load_root.ensures.step c.load_slot_group.ensures.step c.args._place
-    c.requires.row
+returns-clause-ready g c =
+    let there = c.come_to-group.ensures.there in
+    ready_at c.args.board.now _ c.come_to-group.result c.args.key c.in-At.place c.enter.new.hand
+    c.come_to-group.new.hand c.locate.new.hand c.enter.ensures.inside.of c.come_to-group.ensures.steps there
+    c.locate.ensures.steps (c.locate.ensures.search there.search) c.in-At.ensures.located

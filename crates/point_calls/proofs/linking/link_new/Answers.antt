@@ -1,13 +1,17 @@
 use Rattle.std.proofs.Common.{◌≡◌, ℕ, ◌<◌, ◌^◌, None, inl, inr, ⊎_elim, Option, refl, rules, sym, ap}
 use Rattle.std.proofs.Common.{◌∙◌, subst, arith}
 use Rattle.map_model.specs.declared.entries.Change.TheVariants.{Put}
-use Rattle.index_machine.specs.declared.events.Action.TheVariants.{FailLink, LinkRow, LoadPhase}
+use Rattle.index_machine.specs.declared.events.Action.TheVariants.{FailLink, LinkRow}
 use Rattle.index_machine.specs.Rows.{Holds, InBuffer, role, role_key}
 use Rattle.index_machine.specs.Lanes.{HasLane}
 use Rattle.index_machine.specs.Words.{link_behind}
 use Rattle.machine_buffers.proofs.BegunLanes.{cuts_rise}
 use Rattle.index_rule.specs.declared.rows.PrivateRow.{PrivateRow}
 use Rattle.tried_calls.specs.declared.tried.Tried.{Tried}
+use Rattle.tried_calls.specs.declared.tried.Tried.TheVariants as tried
+use Rattle.tried_calls.specs.declared.tried.Why.TheVariants as why
+use Rattle.index_rule.specs.declared.board.Board.{Board}
+use Rattle.index_rule.specs.declared.hand.Hand.{Hand}
 use Rattle.index_rule.specs.Hands.{known, opening_of}
 use Rattle.index_rule.specs.OwnRows.{place_of_private}
 use Rattle.delta_buffer.specs.Walks.{load_of_link}
@@ -15,49 +19,31 @@ use Rattle.index_rule.proofs.RecordSteps.{place_below}
 use Rattle.index_rule.proofs.Standing.{keyed_place}
 use Rattle.delta_buffer.specs.Inserting.{CanInsert, change_of}
 use Rattle.point_calls.specs.PointCalls.{HasSpare}
-use Rattle.point_calls.specs.Putting.{PutTells}
-use Rattle.point_calls.proofs.Knowing.{spare_on}
+use Rattle.point_calls.specs.Putting.{GetsNoRow, LeavesNone, PutTells}
 use Rattle.point_calls.proofs.LeftWords.{made_behind}
 use Rattle.point_calls.proofs.NewRows.{adds_there, can_insert, holds_none_linked, may_before}
-use Rattle.point_calls.proofs.NewRows.{may_filled, may_link, section_behind}
-use Rattle.point_calls.proofs.RowPutting.{is_open, sees_phase}
-use Rattle.point_calls.proofs.Exchanging.{none_by}
+use Rattle.point_calls.proofs.NewRows.{may_filled, section_behind}
+use Rattle.point_calls.proofs.ChainWay.{same_none}
 use Rattle.point_calls.proofs.CallExchanges.{fill_makes_none, head_makes_two, insert_makes_one}
 use Rattle.point_calls.proofs.CallExchanges.{row_makes_two}
 use Rattle.point_calls.proofs.linking.link_new.Goals as goal
 
-pub load_phase-word-requires-clause-may : goal.load_phase-word-requires-clause-may
-load_phase-word-requires-clause-may c =
-    sees_phase c.args.board.now c.args.start.now.value c.args.hand.now c.args.gap.lane.group c.args.gap.key
-    c.requires.found.group_of
-
-pub own_row-requires-clause-spare : goal.own_row-requires-clause-spare
-own_row-requires-clause-spare c =
-    spare_on c.args.board.now c.args.hand.now c.load_phase-word.new.hand
-    (LoadPhase c.args.gap.lane.group c.load_phase-word.result) c.requires.found.group_of.search.call.of
-    c.load_phase-word.ensures tt c.args.spare.now c.requires.spare
-
-pub own_row-requires-clause-may : goal.own_row-requires-clause-may
-own_row-requires-clause-may c =
-    may_link c.args.board.now c.args.start.now.value c.args.hand.now c.load_phase-word.new.hand
-    c.args.gap c.load_phase-word.result c.requires.found
-    c.load_phase-word.ensures
-
--- no group is frozen
-pub returns-then-word : goal.returns-then-word
-returns-then-word c =
-    absurd (c.if-word.true (is_open c.args.board.now c.args.start.now.value c.args.hand.now
-    c.load_phase-word.new.hand c.args.gap.lane.group c.args.gap.key c.load_phase-word.result
-    c.requires.found.group_of c.load_phase-word.ensures ∙ sym c.word.ensures))
+-- a call that got no row has none
+leaves_none : (b : Board) (key : ℕ) (start : Hand) (spare : Option PrivateRow) (answer : Tried (Option ℕ)) (k : Hand)
+    (new : Option PrivateRow) → GetsNoRow b key start spare answer k → new ≡ None → LeavesNone spare answer new
+leaves_none b key start spare tried.Full k new gets gone = λ was. gone
+leaves_none b key start spare (tried.Again (why.Raced address expected found)) k new gets gone = tt
+leaves_none b key start spare answer k new gets gone = absurd gets
 
 pub returns-in-Err-clause-exchanges : goal.returns-in-Err-clause-exchanges
 returns-in-Err-clause-exchanges c =
     let h = c.args.hand.now in
-    let n = c.load_phase-word.new.hand in
-    head_makes_two h n c.own_row.new.hand
-    (none_by c.args.board.now h (LoadPhase c.args.gap.lane.group c.load_phase-word.result) n
-    c.requires.found.group_of.search.call.of c.load_phase-word.ensures refl refl refl)
-    c.own_row.ensures.exchanges
+    head_makes_two h h c.own_row.new.hand (same_none h h refl) c.own_row.ensures.exchanges
+
+pub returns-in-Err-clause-none : goal.returns-in-Err-clause-none
+returns-in-Err-clause-none c =
+    leaves_none c.args.board.now c.args.gap.key c.args.start.now.value c.args.spare.now c.in-Err.refusal
+    c.own_row.new.hand c.own_row.new.spare c.in-Err.ensures.answer c.own_row.ensures.gone
 
 pub insert-requires-clause-search : goal.insert-requires-clause-search
 insert-requires-clause-search c =
@@ -79,7 +65,7 @@ insert-requires-clause-may c =
     (λ (z : PrivateRow).
     CanInsert (opening_of b) k.number gap.lane.group gap.lane.number (place_of_private z) gap.before gap.next (known k))
     (sym c.fill.ensures.row)
-    (can_insert b h k gap place c.requires.empty may filled.held filled.key_word filled.state_word)
+    (can_insert b h k gap place may filled.held filled.key_word filled.state_word)
 
 pub link_address-link-requires-clause-lane : goal.link_address-link-requires-clause-lane
 link_address-link-requires-clause-lane c =
@@ -116,7 +102,6 @@ returns-in-Done c =
     let b = c.args.board.now in
     let h = c.args.start.now.value in
     let first = c.args.hand.now in
-    let n = c.load_phase-word.new.hand in
     let r = c.own_row.new.hand in
     let k = c.fill.new.hand in
     let e = c.insert.new.hand in
@@ -136,9 +121,8 @@ returns-in-Done c =
       call = c.insert.ensures.search.call;
       number = search rules;
       section = section_behind b h k gap row links e may held steps tt;
-      exchanges = row_makes_two first n r k e
-          (none_by b first (LoadPhase gap.lane.group c.load_phase-word.result) n
-          c.requires.found.group_of.search.call.of c.load_phase-word.ensures refl refl refl)
+      exchanges = row_makes_two first first r k e
+          (same_none first first refl)
           c.own_row.ensures.exchanges
           (fill_makes_none b r place gap.key c.args.value k c.own_row.ensures.may.search.call.of filled)
           (insert_makes_one b k gap.lane.group gap.lane.number row gap.before gap.next c.insert.result e c.fill.ensures.hand
@@ -152,6 +136,7 @@ returns-in-Done c =
           c.in-Done.ensures.tells.0;
       full = search rules;
       kept = search rules;
+      none = search rules;
     }
 
 pub returns-in-Raced : goal.returns-in-Raced
@@ -159,7 +144,6 @@ returns-in-Raced c =
     let b = c.args.board.now in
     let h = c.args.start.now.value in
     let first = c.args.hand.now in
-    let n = c.load_phase-word.new.hand in
     let r = c.own_row.new.hand in
     let k = c.fill.new.hand in
     let e = c.insert.new.hand in
@@ -179,9 +163,8 @@ returns-in-Raced c =
       call = c.insert.ensures.search.call;
       number = search rules;
       section = section_behind b h k gap row fails e may held s.2 tt;
-      exchanges = row_makes_two first n r k e
-          (none_by b first (LoadPhase gap.lane.group c.load_phase-word.result) n
-          c.requires.found.group_of.search.call.of c.load_phase-word.ensures refl refl refl)
+      exchanges = row_makes_two first first r k e
+          (same_none first first refl)
           c.own_row.ensures.exchanges
           (fill_makes_none b r place gap.key c.args.value k c.own_row.ensures.may.search.call.of filled)
           (insert_makes_one b k gap.lane.group gap.lane.number row gap.before gap.next c.insert.result e c.fill.ensures.hand
@@ -204,4 +187,5 @@ returns-in-Raced c =
           );
       full = search rules;
       kept = search rules;
+      none = subst (λ (z : Tried (Option ℕ)). LeavesNone c.args.spare.now z c.keep.new.spare) (sym c.raced.ensures) tt;
     }

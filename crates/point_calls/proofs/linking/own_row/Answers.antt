@@ -7,7 +7,7 @@ use Rattle.index_rule.specs.Hands.{Makes}
 use Rattle.index_rule.specs.OwnRows.{place_of_private}
 use Rattle.point_calls.proofs.Knowing.{call_since}
 use Rattle.point_calls.proofs.LeftWords.{head_elsewhere, left_on, made_at, made_behind}
-use Rattle.point_calls.proofs.NewRows.{is_missing, made_there, may_on}
+use Rattle.point_calls.proofs.NewRows.{made_there, may_on}
 use Rattle.point_calls.proofs.CallExchanges.{take_makes_one}
 use Rattle.point_calls.proofs.linking.own_row.Goals as goal
 
@@ -92,8 +92,10 @@ returns-in-Empty-clause-answer c =
       c.in-Empty.ensures.holds,
       (
         made_there b h n k gap (LoadFree 0) c.requires.may loads,
-        is_missing b h k gap c.requires.empty may,
+        may.may.missing,
         c.in-Empty.ensures.used_up refl,
+        may.no_row,
+        may.may.room,
       ),
     )
 

@@ -1,31 +1,23 @@
-use Rattle.std.proofs.Common.{◌≡◌, ℕ, [], List, sym, ap, ◌∙◌, arith}
+use Rattle.std.proofs.Common.{◌≡◌, ℕ, [], sym, ap, ◌∙◌, arith}
 use Rattle.std.specs.Prelude.{nat_lt}
-use Rattle.std.proofs.lemmas.Bool.{le-ltb, lt-ltb}
-use Rattle.map_model.specs.History.{after}
+use Rattle.std.proofs.lemmas.Bool.{le-ltb}
 use Rattle.map_model.specs.Map.{Map}
-use Rattle.word_layout.specs.Layout.{bounds_of}
-use Rattle.word_layout.specs.Parts.{part_count, part_with}
-use Rattle.word_layout.proofs.PartGroups.{part_with-within}
-use Rattle.index_machine.specs.LivePlaces.{history}
-use Rattle.index_machine.specs.Openings.{opening_map}
-use Rattle.resting_table.specs.Resting.{pairs_before}
-use Rattle.resting_table.proofs.KeptPairs.{all_tested, none_pass}
+use Rattle.word_layout.specs.Layout.{bounds_of, shape_of}
+use Rattle.word_layout.specs.Parts.{part_count}
+use Rattle.word_layout.specs.Shape.{first_group_of, group_total}
+use Rattle.word_layout.specs.declared.layout.Layout.{Layout}
+use Rattle.index_machine.specs.declared.opening.Opening.{Opening}
+use Rattle.index_machine.specs.OpeningRows.{opening_group}
+use Rattle.resting_table.specs.Resting.{map_left, pairs_before}
+use Rattle.resting_table.proofs.PairsBelow.{none_pass}
+use Rattle.resting_table.proofs.RestingWords.{all_groups}
 use Rattle.resting_table.proofs.reading.pairs_of.Goals as goal
 
--- before the first part there are none
-none_before : (bounds : List ℕ) (m : Map) → pairs_before bounds 0 m ≡ []
-none_before bounds m =
-    none_pass (λ (k : ℕ). nat_lt (part_with bounds k) 0) m
-    (λ k. le-ltb (part_with bounds k) 0 (omega arith))
-
--- and all are in the parts
-all_before : (bounds : List ℕ) (many : ℕ) (m : Map) → many ≡ part_count bounds →
-    pairs_before bounds many m ≡ m
-all_before bounds many m is =
-    all_tested (λ (k : ℕ). nat_lt (part_with bounds k) many) m
-    (λ k.
-    let within = part_with-within bounds k in
-    lt-ltb (part_with bounds k) many (omega arith))
+-- of no group there are none
+none_before : (o : Opening) (first : ℕ) (m : Map) → first ≡ 0 → pairs_before o first m ≡ []
+none_before o first m is =
+    none_pass (λ (k : ℕ). nat_lt (opening_group o k) first) m
+    (λ k x e. le-ltb (opening_group o k) first (omega arith))
 
 pub loop-part-init : goal.loop-part-init
 loop-part-init c =
@@ -33,15 +25,20 @@ loop-part-init c =
       room = c.requires.room;
       tell = λ o t rest.
           c.requires.none
-          ∙ sym (none_before (bounds_of c.args.layout.now) (after (opening_map o) (history t)));
+          ∙ sym (none_before o (first_group_of (shape_of c.args.layout.now) 0) (map_left o t) (omega arith));
     }
 
 pub returns : goal.returns
 returns c =
     λ o t rest.
+    let l = c.args.layout.now in
     let over = c.loop-part-test.false in
     let upto = c.loop-part.auto.part-end in
     let count = c.count-part-end.ensures.count ∙ ap part_count c.parts.ensures.parts in
+    let all : first_group_of (shape_of l) c.loop-part.part ≡ group_total (shape_of l) =
+    let is : c.loop-part.part ≡ part_count (bounds_of l) = omega arith in
+    ap (first_group_of (shape_of l)) is
+    in
     c.loop-part.invariant.tell o t rest
-    ∙ all_before (bounds_of c.args.layout.now) c.loop-part.part (after (opening_map o) (history t))
-    (omega arith)
+    ∙ all_groups l c.args.words.now o t rest (first_group_of (shape_of l) c.loop-part.part)
+    (all ∙ ap (λ (z : Layout). group_total (shape_of z)) (sym rest.layout))

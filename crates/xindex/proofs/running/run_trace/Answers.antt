@@ -22,6 +22,6 @@ returns-in-Ok-close g c =
     let run = c.in_ok-opened.ensures in
     let new = c.in-Ok.ensures.opened in
     run_closed c.args.limits c.in-Ok.opened.index c.args.trace.now ran.opened.passes.items ran.transcript.items
-    c.in-Ok-close.rows.items new.limits new.empty new.rules.least_callers run.passes
+    c.in-Ok-close.rows.items new.limits new.rows_are new.rules.least_callers run.passes
     (subst (λ (i : Index). IsClosedWith i ran.opened.passes.items c.in-Ok-close.rows.items) run.index
     c.in-Ok-close.ensures.closed)

@@ -27,7 +27,7 @@ returns-clause-opened g c =
     record {
       limits = refl;
       parts = c.requires.new.parts;
-      empty = c.requires.new.empty;
+      empty = c.requires.new.rows_are;
       many = omega arith;
       passes = c.told_all-passes.ensures.served;
       changes = ap changes_of c.told_all-passes.ensures.log

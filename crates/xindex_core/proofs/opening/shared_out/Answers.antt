@@ -1,4 +1,4 @@
-use Rattle.std.proofs.Common.{◌≡◌, ◌⊎◌, inl, inr, ⊎_elim, ℕ, ◌+◌, ◌<◌, ◌∷◌, ◌++◌, [], List, length, None, sym, ap, subst, refl, ◌≤◌}
+use Rattle.std.proofs.Common.{◌≡◌, inl, inr, ⊎_elim, ℕ, ◌+◌, ◌<◌, ◌∷◌, ◌++◌, [], List, length, None, sym, ap, subst, ◌≤◌}
 use Rattle.std.proofs.Common.{◌∙◌, append_assoc, arith, length-append}
 use Rattle.word_layout.specs.declared.limits.Limits.{Limits}
 use Rattle.index_machine.specs.Keepers.{IsPart, IsPartKeeper}
@@ -24,7 +24,7 @@ loop-hand-preserved-in-Continue-1 c =
     let whole : c.loop-hand.yielded ++ (h ∷ rest) ≡ c.args.hands.items =
     ap (λ (z : List Hand). c.loop-hand.yielded ++ z) (sym c.in-Some.ensures.steps.0) ∙ i.whole in
     let one = length-append c.loop-hand.yielded (h ∷ []) in
-    let pass : Pass = record { hand = h; spare = None } in
+    let pass : Pass = record { hand = h; spare = None; probes = c.new.result } in
     let next : n + 1 ≡ length (c.loop-hand.yielded ++ h ∷ []) = omega arith in
     let items = c.in_ok-push.ensures.items in
     let counted = i.many in
@@ -43,10 +43,11 @@ loop-hand-preserved-in-Continue-1 c =
       left = subst (λ (z : ℕ). AreNewHands index.board z rest) next left.3;
       passes = subst (AreNewPasses index 0) (sym items)
           (passes_push index 0 c.loop-hand.passes.items pass i.passes
-          (new_pass index h n left.0 left.1 left.2 caller)
+          (new_pass index h n c.new.result left.0 left.1 left.2 caller)
           at
           (ap (λ (v : View). v.known) left.2)
-          (ap (λ (v : View). v.log) left.2));
+          (ap (λ (v : View). v.log) left.2)
+          c.new.ensures);
       keepers = i.keepers;
       many = omega arith;
       few = omega arith;
@@ -94,7 +95,7 @@ loop-hand-preserved c =
       passes = i.passes;
       keepers = subst (AreNewKeepers index 0) (sym pushed)
           (keepers_push index 0 c.loop-hand.keepers.items keeper i.keepers
-          (new_keeper index h n part left.0 left.1 is_part kept)
+          (new_keeper index h n part left.0 left.1 (ap (λ (v : View). v.known) left.2) is_part kept)
           (omega arith)
           (ap (λ (v : View). v.known) left.2));
       many = omega arith;

@@ -1,8 +1,7 @@
 use Rattle.std.proofs.Common.{List, [], ◌∷◌, ◌≡◌, ◌++◌, ap, ◌∙◌, sym, subst}
 use Rattle.index_rule.specs.declared.hand.Hand.{Hand}
-use Rattle.index_rule.specs.Ended.{AreAllHands}
-use Rattle.xindex_core.specs.Closing.{IsReadBack}
-use Rattle.xindex_core.proofs.AllPasses.{all_there, closed, one_keeper}
+use Rattle.xindex_core.specs.Closing.{AreGivenBack, IsReadBack}
+use Rattle.xindex_core.proofs.AllPasses.{closed, given_back, one_keeper}
 use Rattle.xindex_core.proofs.index.Index.close.Goals as goal
 
 pub read_back-requires-clause-hands : goal.read_back-requires-clause-hands
@@ -10,10 +9,10 @@ read_back-requires-clause-hands c =
     let keeper = c.args.keeper in
     let pushed : c.push.new.self.items ≡ c.with_passes-hands.result.items ++ keeper.hand ∷ [] =
     rw c.unwrap.ensures at c.push.ensures.items in
-    subst (λ (hands : List Hand). AreAllHands c.args.self.board hands)
+    subst (λ (hands : List Hand). AreGivenBack c.args.self hands)
     (sym (pushed
     ∙ ap (λ (hands : List Hand). hands ++ keeper.hand ∷ []) c.with_passes-hands.ensures.hands))
-    (all_there c.args.self c.args.passes.items (keeper ∷ []) c.requires.passes
+    (given_back c.args.self c.args.passes.items (keeper ∷ []) c.requires.passes
     (one_keeper c.args.self keeper c.requires.one_part c.requires.keeper))
 
 pub returns-clause-closed : goal.returns-clause-closed

@@ -1,4 +1,4 @@
-use Rattle.std.proofs.Common.{List, ℕ, sym, subst}
+use Rattle.std.proofs.Common.{sym, subst}
 use Rattle.index_rule.specs.Ended.{Leaves}
 use Rattle.resting_table.specs.Resting.{TellPairs}
 use Rattle.word_layout.specs.declared.layout.Layout.{Layout}

@@ -1,7 +1,9 @@
 -- What is known inside of the read section is told from outside of it.
+use Rattle.map_model.specs.declared.calls.Call.TheVariants as call
 use Rattle.index_rule.specs.Hands.{opening_of}
 use Rattle.xindex_core.proofs.Sections.{later_is, truthful}
-use Rattle.xindex_core.proofs.Trying.{put_since, put_tells, spare_behind, spare_inside}
+use Rattle.xindex_core.proofs.Inside.{put_since, put_tells}
+use Rattle.xindex_core.proofs.Trying.{ends_outside, spare_behind, spare_inside}
 use Rattle.xindex_core.proofs.pass.Pass.try_put.Goals as goal
 
 pub put-answer-requires-clause-spare : goal.put-answer-requires-clause-spare
@@ -32,10 +34,11 @@ returns-clause-tries c =
           c.leave.ensures.step
           (put_since b c.args.key c.args.value c.enter.new.hand c.put-answer.result c.put-answer.new.hand
           tells);
-      ends = put_tells b c.args.self.now.hand c.enter.new.hand c.put-answer.new.hand c.leave.new.hand _ _
+      ends = ends_outside b c.args.self.now.hand c.enter.new.hand c.put-answer.new.hand c.leave.new.hand _ _
           c.requires.of c.enter.ensures.step c.put-answer.ensures.call.of c.put-answer.ensures.number
-          c.leave.ensures.step
-          c.args.key c.args.value c.put-answer.result tells;
+          c.leave.ensures.step (call.Put c.args.key c.args.value) c.put-answer.result
+          (put_tells b c.enter.new.hand c.put-answer.new.hand c.put-answer.ensures.number c.args.key c.args.value
+          c.put-answer.result tells);
       steps = record {
         inside = c.enter.new.hand;
         done = c.put-answer.new.hand;
@@ -46,5 +49,6 @@ returns-clause-tries c =
         leaves = c.leave.ensures.step;
       };
       full = c.put-answer.ensures.full;
-      spare = c.put-answer.ensures.kept;
+      spare = (c.put-answer.ensures.kept, c.put-answer.ensures.none);
+      probes = c.put-answer.ensures.probes;
     }

@@ -1,10 +1,12 @@
 -- What is known inside of the read section is told from outside of it.
+use Rattle.map_model.specs.declared.calls.Call.TheVariants as call
 use Rattle.std.proofs.Common.{Option, ℕ, refl, subst}
 use Rattle.tried_calls.specs.declared.tried.Tried.{Tried}
 use Rattle.point_calls.specs.Removing.{RemoveTells}
 use Rattle.index_rule.specs.Hands.{opening_of}
 use Rattle.xindex_core.proofs.Sections.{later_is, truthful}
-use Rattle.xindex_core.proofs.Trying.{remove_since, remove_tells, spare_behind, spare_inside}
+use Rattle.xindex_core.proofs.Inside.{remove_since, remove_tells}
+use Rattle.xindex_core.proofs.Trying.{ends_outside, spare_behind, spare_inside}
 use Rattle.xindex_core.proofs.pass.Pass.try_remove.Goals as goal
 
 pub returns-clause-pass : goal.returns-clause-pass
@@ -32,10 +34,11 @@ returns-clause-tries c =
           c.leave.ensures.step
           (remove_since b c.args.key c.enter.new.hand c.remove-answer.result c.remove-answer.new.hand
           tells);
-      ends = remove_tells b c.args.self.now.hand c.enter.new.hand c.remove-answer.new.hand c.leave.new.hand _ _
+      ends = ends_outside b c.args.self.now.hand c.enter.new.hand c.remove-answer.new.hand c.leave.new.hand _ _
           c.requires.of c.enter.ensures.step c.remove-answer.ensures.call.of c.remove-answer.ensures.number
-          c.leave.ensures.step
-          c.args.key c.remove-answer.result tells;
+          c.leave.ensures.step (call.Remove c.args.key) c.remove-answer.result
+          (remove_tells b c.enter.new.hand c.remove-answer.new.hand c.remove-answer.ensures.number c.args.key
+          c.remove-answer.result tells);
       steps = record {
         inside = c.enter.new.hand;
         done = c.remove-answer.new.hand;
@@ -49,4 +52,5 @@ returns-clause-tries c =
           (λ (z : Tried (Option ℕ)). RemoveTells b c.args.key c.enter.new.hand z c.remove-answer.new.hand)
           is tells);
       spare = refl;
+      probes = c.remove-answer.ensures.probes;
     }
