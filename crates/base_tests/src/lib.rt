@@ -18,6 +18,8 @@ mod parts;
 #[cfg(test)]
 mod plans;
 #[cfg(test)]
+mod replays;
+#[cfg(test)]
 mod replies;
 #[cfg(test)]
 mod requests;

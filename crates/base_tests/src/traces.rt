@@ -109,7 +109,7 @@ fn each_error_of_a_trace_is_told(rt: HostRuntime) -> Result<(), Fail> {
     let bad = format!(in rt.alloc(); "{}", TraceError::BadLine { number: 7 })?;
     assert_eq!(rt; bad.as_str(), "bad line 7");
     let memory = format!(in rt.alloc(); "{}", TraceError::Memory)?;
-    assert_eq!(rt; memory.as_str(), "not enough memory for the trace");
+    assert_eq!(rt; memory.as_str(), "not enough memory for the lines");
     Ok(())
 }
 

@@ -7,7 +7,6 @@ pub mod Seats
 pub mod Telling
 pub mod Opens
 pub mod NewHands
-pub mod OneGroups
 pub mod StepKinds
 pub mod EpochSteps
 pub mod Ending

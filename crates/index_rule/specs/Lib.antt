@@ -4,7 +4,6 @@ pub mod Steps
 pub mod Hands
 pub mod Moments
 pub mod Calls
-pub mod OneGroups
 pub mod Looks
 pub mod Notes
 pub mod OwnRows

@@ -17,9 +17,7 @@ use Rattle.machine_chain.specs.Walks.{AnswersFor}
 use Rattle.index_rule.specs.declared.board.Board.{Board}
 use Rattle.index_rule.specs.declared.hand.Hand.{Hand}
 use Rattle.index_rule.specs.Calls.{CanCall}
-use Rattle.index_rule.specs.OneGroups.{HasOneGroupEach}
 use Rattle.index_rule.specs.Hands.{IsHandOf, Makes, known, opening_of}
-use Rattle.index_rule.proofs.OneGroups.{group_of_part}
 use Rattle.index_rule.proofs.Stepping.{known_is, others_only, valid_after}
 use Rattle.root_table.specs.Standing.{StandsIn}
 use Rattle.sorted_group.specs.Standing.{CanSearch, IsOfBuffer}
@@ -27,6 +25,7 @@ use Rattle.resting_table.specs.NoRebuild.{HasNoRebuild}
 use Rattle.resting_table.proofs.NoRebuildLaws.{groups_as_opened}
 use Rattle.xindex_core.proofs.Idle.{nothing_rebuilt}
 use Rattle.index_tests.specs.Boards.{HasOneGroup, IsInside}
+use Rattle.index_tests.proofs.OneGroups.{HasOneGroupEach, group_of_part}
 
 -- ---- a caller in a group ----
 

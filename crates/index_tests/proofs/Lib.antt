@@ -1,3 +1,4 @@
+pub mod OneGroups
 pub mod Groups
 pub mod Places
 pub mod Linking

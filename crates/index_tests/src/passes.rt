@@ -1,4 +1,4 @@
-//! Passes tell each other, and limits are refused.
+//! Passes and keepers tell each other, and limits are refused.
 use crate::boards::SMALL;
 use crate::indexes::opened_for_two;
 use word_layout::{LAST_VERSION, Limits};
@@ -14,6 +14,18 @@ fn a_pass_that_heeds_sees_what_was_put(rt: HostRuntime) {
     assert_eq!(rt; second.try_remove(&index, 5), Tried::Done(Some(50)));
     assert_eq!(rt; first.try_get(&index, 5), Tried::Done(None));
     assert_eq!(rt; (first.number(), second.number()), (0, 1));
+}
+
+#[test]
+fn a_keeper_hands_on_what_it_heeded(rt: HostRuntime) {
+    let (index, (mut first, mut second), mut keeper) = opened_for_two(&rt, rt.alloc(), SMALL);
+    assert_eq!(rt; first.try_put(&index, 5, 50), Tried::Done(None));
+    let note = first.tell(&index);
+    keeper.heed(&index, note);
+    let note = keeper.tell(&index);
+    second.heed(&index, note);
+    assert_eq!(rt; second.try_get(&index, 5), Tried::Done(Some(50)));
+    assert_eq!(rt; keeper.part(), 0);
 }
 
 #[test]

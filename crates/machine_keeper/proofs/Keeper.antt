@@ -51,7 +51,7 @@ direct_not : (n : ℕ) (r : Bool) (q v p y : ℕ) → made_direct n r (Redirect 
 direct_not n r q v p y e = let bad : Unlocked n r v ≡ Redirect p y = e in cc
 
 -- an array place is of one group
-one_array : (o : Opening) (g h a : ℕ) → IsArrayPlaceOf o g a → IsArrayPlaceOf o h a → g ≡ h
+pub one_array : (o : Opening) (g h a : ℕ) → IsArrayPlaceOf o g a → IsArrayPlaceOf o h a → g ≡ h
 one_array o g h a mine theirs =
     let s : Shape = shape o in
     let width : ℕ = group_words_of s.limits in

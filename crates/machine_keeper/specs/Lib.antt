@@ -1,2 +1,4 @@
 pub mod Marks
 pub mod Keeper
+pub mod Staying
+pub mod Clearing

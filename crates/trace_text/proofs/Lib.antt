@@ -1,9 +1,15 @@
+pub mod CuttingLaws
 pub mod LineLaws
+pub mod ReturnLaws
+pub mod DeedLaws
+pub mod PlayLaws
 pub mod TraceLaws
 pub mod KeptLaws
 pub mod ReplyLaws
 pub mod TextLaws
 pub mod TranscriptLaws
+pub mod DecimalLaws
 pub mod WrittenLaws
+pub mod PlayedLaws
 pub mod OnceLaws
 pub mod CountLaws

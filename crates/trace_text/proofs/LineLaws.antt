@@ -18,7 +18,7 @@ use Rattle.trace_text.specs.declared.lines.Mark.TheVariants as mark
 use Rattle.trace_text.specs.declared.lines.Line.{Line}
 use Rattle.trace_text.specs.declared.lines.Line.TheVariants.{Skip, Phase, Caller, Call}
 use Rattle.trace_text.specs.Lines.{HasWordsOf, IsSkipped, IsCall, NamesCaller, HasCaller, keyword_of as name_of, IsMark, Fits, Says}
-use Rattle.trace_text.specs.Laws.{LinesSayOneThing}
+use Rattle.trace_text.specs.Laws.{SaysOneThing}
 use Rattle.wire_commands.specs.Numbers.{value_of}
 
 -- a line has one list of words only
@@ -104,12 +104,23 @@ no_caller callers whole line word rest dropped begins is none (Caller caller) = 
 no_caller callers whole line word rest dropped begins is none (Call request) = λ m. m
 
 -- a caller's number is the line's only word
-pub same_caller_word : (callers : ℕ) (line word : List ℕ) (caller : ℕ) → HasWords line (word ∷ [])
+same_caller_word : (callers : ℕ) (line word : List ℕ) (caller : ℕ) → HasWords line (word ∷ [])
     → HasCaller callers line caller → NamesCaller callers word caller
 same_caller_word callers line word caller has has_caller =
     let words = same_words line (has_caller.0 ∷ []) (word ∷ []) has_caller.1 has in
     let same : has_caller.0 ≡ word = cc words in
     subst (λ w. NamesCaller callers w caller) same has_caller.2
+
+-- what the line's only word names, the line names
+pub names_by_word : (callers : ℕ) (line word : List ℕ) (result : Option ℕ)
+    → HasWords line (word ∷ [])
+    → MatchOption result ((caller : ℕ) → ¬ (NamesCaller callers word caller))
+    (NamesCaller callers word)
+    → MatchOption result ((caller : ℕ) → ¬ (HasCaller callers line caller))
+    (HasCaller callers line)
+names_by_word callers line word (Some caller) has names = (word, has, names)
+names_by_word callers line word None has none = λ caller has_caller.
+    none caller (same_caller_word callers line word caller has has_caller)
 
 -- the first reason is tried before that of an unknown word
 fits_before_word : (line : List ℕ) (words : List (List ℕ)) (before after : List Reason)
@@ -247,7 +258,7 @@ no_call_of_mark callers whole mark call fits is reads =
     (λ is_call. is_call)
 
 -- no line says two things
-pub lines_say_one_thing : LinesSayOneThing
+pub lines_say_one_thing : (callers : ℕ) → SaysOneThing (Says callers)
 lines_say_one_thing callers whole Skip Skip a b = refl
 lines_say_one_thing callers whole Skip Phase a b = absurd (b.0 a)
 lines_say_one_thing callers whole Skip (Caller caller) a b = absurd (b.0 a)

@@ -1,20 +1,19 @@
 -- Lines that are written of a keyword and numbers are read back.
-use Rattle.std.proofs.Common.{◌≡◌, ◌≢◌, ℕ, ◌+◌, ◌/◌, ◌%◌, ◌^◌, ◌<◌, ◌≤◌, List, [], ◌∷◌, ◌++◌, length, codes, refl, sym, ap, subst, inl, inr, ◌∙◌, append_assoc, arith}
+use Rattle.std.proofs.Common.{◌≡◌, ◌≢◌, ℕ, ◌^◌, ◌<◌, ◌≤◌, List, [], ◌∷◌, ◌++◌, length, codes, refl, sym, ap, subst, inl, inr, ◌∙◌, append_assoc, arith}
 use Rattle.std.specs.Fmt.{decimal}
 use Rattle.std.specs.List.{AllByRecursion}
-use Rattle.std.proofs.lemmas.Fmt.{decimal_by_steps, length-decimal-le}
+use Rattle.std.proofs.lemmas.Fmt.{length-decimal-le}
 use Rattle.std.proofs.lemmas.List.{append-nil, length-append}
 use Rattle.wire_commands.specs.declared.request.Request.TheVariants.{Get, Put, Remove}
 use Rattle.wire_commands.specs.Words.{IsBlank, IsWord, HasWords}
 use Rattle.wire_commands.specs.Numbers.{IsDigit, IsNumber, value_of}
 use Rattle.wire_commands.specs.Stream.{HasNoNewline}
 use Rattle.wire_commands.specs.Grammar.{greatest_number, longest, AreNumbers, DropsReturn}
-use Rattle.wire_commands.proofs.Spans.{second_part_has, push_has}
-use Rattle.wire_commands.proofs.NumberLaws.{value_of-append}
+use Rattle.wire_commands.proofs.Spans.{second_part_has}
 use Rattle.trace_text.specs.declared.lines.Line.TheVariants.{Phase, Caller, Call}
 use Rattle.trace_text.specs.Lines.{IsSkipped, Fits, Says}
 use Rattle.trace_text.specs.Laws.{WrittenIsRead}
-use Rattle.trace_text.proofs.TextLaws.{append-some}
+use Rattle.trace_text.proofs.DecimalLaws.{all_weaker, is_written, number_is_word}
 
 -- both parts have a property
 pub both_have : {X : Type 0} (P : X → Type 0) (xs ys : List X) → AllByRecursion P xs
@@ -22,57 +21,12 @@ pub both_have : {X : Type 0} (P : X → Type 0) (xs ys : List X) → AllByRecurs
 both_have P [] ys front back = back
 both_have P (x ∷ xs) ys front back = (front.0, both_have P xs ys front.1 back)
 
--- what has a property has one that follows
-all_weaker : {X : Type 0} (P Q : X → Type 0) (xs : List X) → ((x : X) → P x → Q x)
-    → AllByRecursion P xs → AllByRecursion Q xs
-all_weaker P Q [] follows all = tt
-all_weaker P Q (x ∷ xs) follows all = (follows x all.0, all_weaker P Q xs follows all.1)
-
--- these digits are a number with this value
-record IsWritten (n : ℕ) (written : List ℕ) : Type 0 where
-  pub number : IsNumber written
-  pub value : value_of written ≡ n
-
--- one digit
-written_digit : (n : ℕ) → n < 10 → IsWritten n ((48 + n) ∷ [])
-written_digit n small = record {
-  number = (λ e. absurd (cc e), ((omega arith, omega arith), tt));
-  value = omega arith;
-}
-
--- one more digit
-written_more : (n : ℕ) (front : List ℕ) → 10 ≤ n → IsWritten (n / 10) front
-    → IsWritten n (front ++ ((48 + n % 10) ∷ []))
-written_more n front large written = record {
-  number = (
-    append-some front ((48 + n % 10) ∷ []) (λ e. absurd (cc e)),
-    push_has IsDigit front (48 + n % 10) written.number.1 (omega arith, omega arith),
-  );
-  value =
-      value_of-append front ((48 + n % 10) ∷ [])
-      ∙ omega (arith, written.value);
-}
-
--- a number is written by its digits
-is_written : (n : ℕ) → n < 2 ^ 64 → IsWritten n (decimal n)
-is_written n small = decimal_by_steps IsWritten written_digit written_more n small
-
--- a digit is no blank
-digit_no_blank : (byte : ℕ) → IsDigit byte → ¬ (IsBlank byte)
-digit_no_blank byte digit (inl space) = absurd (omega (arith, space, digit.0))
-digit_no_blank byte digit (inr tab) = absurd (omega (arith, tab, digit.0))
-
--- a number is a word
-number_is_word : (written : List ℕ) → IsNumber written → IsWord written
-number_is_word written number =
-    (number.0, all_weaker IsDigit (λ b. ¬ (IsBlank b)) written digit_no_blank number.1)
-
 -- a byte that is printed
-abbrev IsPrinted : ℕ → Type 0
+abbrev pub IsPrinted : ℕ → Type 0
 IsPrinted byte = 32 ≤ byte
 
 -- a small letter
-abbrev IsLetter : ℕ → Type 0
+abbrev pub IsLetter : ℕ → Type 0
 IsLetter byte = 97 ≤ byte
 
 -- a letter is no blank
@@ -81,28 +35,28 @@ letter_no_blank byte letter (inl space) = absurd (omega (arith, space, letter))
 letter_no_blank byte letter (inr tab) = absurd (omega (arith, tab, letter))
 
 -- letters are a word
-letters_are_word : (first : ℕ) (letters : List ℕ) → AllByRecursion IsLetter (first ∷ letters)
+pub letters_are_word : (first : ℕ) (letters : List ℕ) → AllByRecursion IsLetter (first ∷ letters)
     → IsWord (first ∷ letters)
 letters_are_word first letters all =
     (λ e. absurd (cc e), all_weaker IsLetter (λ b. ¬ (IsBlank b)) (first ∷ letters) letter_no_blank all)
 
 -- letters are printed
-letters_printed : (letters : List ℕ) → AllByRecursion IsLetter letters
+pub letters_printed : (letters : List ℕ) → AllByRecursion IsLetter letters
     → AllByRecursion IsPrinted letters
 letters_printed letters all = all_weaker IsLetter IsPrinted letters (λ b letter. omega (arith, letter)) all
 
 -- a number is printed
-number_printed : (written : List ℕ) → IsNumber written → AllByRecursion IsPrinted written
+pub number_printed : (written : List ℕ) → IsNumber written → AllByRecursion IsPrinted written
 number_printed written number =
     all_weaker IsDigit IsPrinted written (λ b digit. omega (arith, digit.0)) number.1
 
 -- what is printed has no newline
-printed_one_line : (whole : List ℕ) → AllByRecursion IsPrinted whole → HasNoNewline whole
+pub printed_one_line : (whole : List ℕ) → AllByRecursion IsPrinted whole → HasNoNewline whole
 printed_one_line whole printed =
     all_weaker IsPrinted (λ b. b ≢ 10) whole (λ b is e. absurd (omega (arith, is, e))) printed
 
 -- what is printed ends in no carriage return
-printed_drops_none : (whole : List ℕ) → AllByRecursion IsPrinted whole → DropsReturn whole whole
+pub printed_drops_none : (whole : List ℕ) → AllByRecursion IsPrinted whole → DropsReturn whole whole
 printed_drops_none whole printed =
     inr (
       refl,
@@ -112,23 +66,28 @@ printed_drops_none whole printed =
           absurd (omega (arith, last.0)),
     )
 
--- a line that begins with a letter has a word
-not_blank : (first : ℕ) (rest line : List ℕ) → IsLetter first → DropsReturn (first ∷ rest) line
-    → ¬ (AllByRecursion IsBlank line)
-not_blank first rest [] letter (inl e) blank = let same : first ≡ 13 = cc in absurd (omega arith)
-not_blank first rest [] letter (inr e) blank = let none = e.0 in absurd (cc none)
-not_blank first rest (x ∷ xs) letter (inl e) blank =
-    let same : first ≡ x = cc in letter_no_blank x (subst IsLetter same letter) blank.0
-not_blank first rest (x ∷ xs) letter (inr e) blank =
-    let whole = e.0 in
-    let same : first ≡ x = cc in letter_no_blank x (subst IsLetter same letter) blank.0
+-- what is behind the sign of a comment is no blank
+above_no_blank : (byte : ℕ) → 36 ≤ byte → ¬ (IsBlank byte)
+above_no_blank byte above (inl space) = absurd (omega (arith, space, above))
+above_no_blank byte above (inr tab) = absurd (omega (arith, tab, above))
 
--- a line that begins with a letter is not skipped
-not_skipped : (first : ℕ) (rest : List ℕ) → IsLetter first → ¬ (IsSkipped (first ∷ rest))
-not_skipped first rest letter (inl hash) =
+-- a line that begins with such a byte has a word
+not_blank : (first : ℕ) (rest line : List ℕ) → 36 ≤ first → DropsReturn (first ∷ rest) line
+    → ¬ (AllByRecursion IsBlank line)
+not_blank first rest [] above (inl e) blank = let same : first ≡ 13 = cc in absurd (omega arith)
+not_blank first rest [] above (inr e) blank = let none = e.0 in absurd (cc none)
+not_blank first rest (x ∷ xs) above (inl e) blank =
+    let same : first ≡ x = cc in above_no_blank x (subst (λ b. 36 ≤ b) same above) blank.0
+not_blank first rest (x ∷ xs) above (inr e) blank =
+    let whole = e.0 in
+    let same : first ≡ x = cc in above_no_blank x (subst (λ b. 36 ≤ b) same above) blank.0
+
+-- nor is it skipped
+pub not_skipped : (first : ℕ) (rest : List ℕ) → 36 ≤ first → ¬ (IsSkipped (first ∷ rest))
+not_skipped first rest above (inl hash) =
     let is = hash.1 in
     let same : first ≡ 35 = cc in absurd (omega arith)
-not_skipped first rest letter (inr has) = not_blank first rest has.line letter has.dropped has.has
+not_skipped first rest above (inr has) = not_blank first rest has.line above has.dropped has.has
 
 -- a short line fits
 fits_short : (whole : List ℕ) → length whole ≤ longest → Fits whole
@@ -136,7 +95,7 @@ fits_short whole short line (inl e) = omega (arith, ap length e, length-append l
 fits_short whole short line (inr e) = omega (arith, ap length e.0)
 
 -- a number at the end of a line
-last_word : (written : List ℕ) → IsNumber written → HasWords (32 ∷ written) (written ∷ [])
+pub last_word : (written : List ℕ) → IsNumber written → HasWords (32 ∷ written) (written ∷ [])
 last_word written number = (
   [],
   record {
@@ -150,7 +109,7 @@ last_word written number = (
 )
 
 -- a number before another one
-next_word : (written rest : List ℕ) (words : List (List ℕ)) → IsNumber written
+pub next_word : (written rest : List ℕ) (words : List (List ℕ)) → IsNumber written
     → HasWords (32 ∷ rest) words → HasWords (32 ∷ (written ++ 32 ∷ rest)) (written ∷ words)
 next_word written rest words number has = (
   32 ∷ rest,
@@ -165,7 +124,7 @@ next_word written rest words number has = (
 )
 
 -- a keyword before numbers
-first_word : (first : ℕ) (letters rest : List ℕ) (words : List (List ℕ))
+pub first_word : (first : ℕ) (letters rest : List ℕ) (words : List (List ℕ))
     → AllByRecursion IsLetter (first ∷ letters) → HasWords (32 ∷ rest) words
     → HasWords (first ∷ (letters ++ 32 ∷ rest)) ((first ∷ letters) ∷ words)
 first_word first letters rest words all has = (
@@ -181,7 +140,7 @@ first_word first letters rest words all has = (
 )
 
 -- one number is within its limit
-one_number : (n : ℕ) → n < 2 ^ 64 → AreNumbers (greatest_number ∷ []) (decimal n ∷ []) (n ∷ [])
+pub one_number : (n : ℕ) → n < 2 ^ 64 → AreNumbers (greatest_number ∷ []) (decimal n ∷ []) (n ∷ [])
 one_number n small =
     let written = is_written n small in
     record {
@@ -191,7 +150,7 @@ one_number n small =
     }
 
 -- two numbers are within their limits
-two_numbers : (m n : ℕ) → m < 2 ^ 64 → n < 2 ^ 64
+pub two_numbers : (m n : ℕ) → m < 2 ^ 64 → n < 2 ^ 64
     → AreNumbers (greatest_number ∷ greatest_number ∷ []) (decimal m ∷ decimal n ∷ []) (m ∷ n ∷ [])
 two_numbers m n m_small n_small =
     let first = is_written m m_small in
@@ -204,20 +163,20 @@ two_numbers m n m_small n_small =
     }
 
 -- a keyword and a number are printed
-one_printed : (letters : List ℕ) (n : ℕ) → n < 2 ^ 64 → AllByRecursion IsLetter letters
+pub one_printed : (letters : List ℕ) (n : ℕ) → n < 2 ^ 64 → AllByRecursion IsLetter letters
     → AllByRecursion IsPrinted (letters ++ 32 ∷ decimal n)
 one_printed letters n small all =
     both_have IsPrinted letters (32 ∷ decimal n) (letters_printed letters all)
     (omega arith, number_printed (decimal n) (is_written n small).number)
 
 -- the letters of the keywords
-get_letters : AllByRecursion IsLetter (codes "get")
+pub get_letters : AllByRecursion IsLetter (codes "get")
 get_letters = (omega arith, (omega arith, (omega arith, tt)))
 
-put_letters : AllByRecursion IsLetter (codes "put")
+pub put_letters : AllByRecursion IsLetter (codes "put")
 put_letters = (omega arith, (omega arith, (omega arith, tt)))
 
-remove_letters : AllByRecursion IsLetter (codes "remove")
+pub remove_letters : AllByRecursion IsLetter (codes "remove")
 remove_letters =
     (omega arith, (omega arith, (omega arith, (omega arith, (omega arith, (omega arith, tt))))))
 
@@ -229,7 +188,7 @@ phase_letters : AllByRecursion IsLetter (codes "phase")
 phase_letters = (omega arith, (omega arith, (omega arith, (omega arith, (omega arith, tt)))))
 
 -- a number has at most 20 digits
-length_number : (n : ℕ) → n < 2 ^ 64 → length (decimal n) ≤ 20
+pub length_number : (n : ℕ) → n < 2 ^ 64 → length (decimal n) ≤ 20
 length_number n small = length-decimal-le 20 n (omega arith) (omega arith) small
 
 -- a get is read as one
@@ -279,7 +238,7 @@ remove_says callers key small =
     )
 
 -- a keyword and two numbers are printed
-two_printed : (letters : List ℕ) (m n : ℕ) → m < 2 ^ 64 → n < 2 ^ 64
+pub two_printed : (letters : List ℕ) (m n : ℕ) → m < 2 ^ 64 → n < 2 ^ 64
     → AllByRecursion IsLetter letters
     → AllByRecursion IsPrinted (letters ++ 32 ∷ (decimal m ++ 32 ∷ decimal n))
 two_printed letters m n m_small n_small all =

@@ -1,5 +1,7 @@
+pub mod TextLines
 pub mod Lines
 pub mod Traces
+pub mod Plays
 pub mod Halves
 pub mod Kept
 pub mod KeptReplies

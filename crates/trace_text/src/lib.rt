@@ -5,11 +5,15 @@
 
 mod appending;
 mod counting;
+mod cutting;
 mod halves;
 mod keeping;
 mod laws;
 mod lines;
+mod plays;
+mod replays;
 mod replying;
+mod telling;
 mod traces;
 mod transcripts;
 
@@ -17,9 +21,13 @@ pub use appending::{append_number, append_pair, append_reply};
 pub use counting::{Form, reply_count};
 pub use keeping::{Cursor, Trace};
 pub use laws::{
-    each_text_has_its_lines, no_line_says_two_things, no_text_is_two_traces, written_lines_are_read,
+    each_text_has_its_lines, no_line_says_two_things, no_play_line_says_two_things,
+    no_text_is_two_replays, no_text_is_two_traces, written_lines_are_read, written_plays_are_read,
 };
 pub use lines::{Line, read_trace_line};
+pub use plays::{Play, read_play_line};
+pub use replays::read_replay;
 pub use replying::Replies;
+pub use telling::{GroupPhase, Told, append_told};
 pub use traces::{TraceError, read_trace};
 pub use transcripts::{append_caller, append_phase, append_rows};

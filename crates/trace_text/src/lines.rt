@@ -2,7 +2,7 @@
 //!
 //! A line is skipped, or a mark that says whose calls follow, or a call. Every other line is bad.
 ghost use Rattle.std.specs.Prelude.{◌≡◌, ◌≢◌, ◌↔◌, ℕ, IsTrue, MatchOption};
-ghost use Rattle.trace_text.specs.Lines.{IsSkipped, keyword_of, IsMark, HasCaller, Says};
+ghost use Rattle.trace_text.specs.Lines.{IsSkipped, keyword_of, IsMark, HasCaller, NamesCaller, Says};
 
 use wire_commands::{
     Reason, Request, first_word, has_no_word, is_number, only_word, read_line, value_within,
@@ -41,7 +41,7 @@ pub fn read_trace_line(line: &[u8], callers: u32) -> Option<Line>
 }
 
 /// Whether the line is a comment or has no word. Such a line may be of any length.
-fn is_skipped(line: &[u8]) -> bool
+pub(crate) fn is_skipped(line: &[u8]) -> bool
     ensures { IsTrue result ↔ IsSkipped line.now }
 {
     match line {
@@ -105,6 +105,14 @@ fn caller_of(rest: &[u8], callers: u32) -> Option<u32>
     let Some(word) = only_word(rest) else {
         return None;
     };
+    named_caller(word, callers)
+}
+
+/// The caller whose number the word is.
+pub(crate) fn named_caller(word: &[u8], callers: u32) -> Option<u32>
+    ensures { MatchOption result ((caller : ℕ) → ¬ (NamesCaller callers word.now caller))
+        (NamesCaller callers word.now) }
+{
     if !is_number(word) {
         return None;
     }

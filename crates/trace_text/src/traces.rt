@@ -1,19 +1,19 @@
 //! A whole trace, which is given as one text.
 //!
 //! Room is taken at once, for as many lines and numbers as a text of this length and with these newlines can have.
-ghost use Rattle.std.specs.Prelude.{◌≡◌, ◌<◌, [], IfOk, MatchResult, length};
+ghost use Rattle.std.specs.Prelude.{◌≡◌, [], IfOk, MatchResult};
 ghost use Rattle.std.specs.List.{AllByRecursion};
 ghost use Rattle.trace_text.specs.Lines.{IsLineFor};
-ghost use Rattle.trace_text.specs.Traces.{CutsLine, IsTrace, IsCause};
+ghost use Rattle.trace_text.specs.Traces.{IsTrace, IsCause};
 
+use crate::cutting::TextLines;
 use crate::keeping::Trace;
 use crate::lines::read_trace_line;
 use std::alloc::{AllocError, Global};
 use std::error::Error;
 use std::fmt;
-use wire_commands::line_len;
 
-/// Why a text is not read as a trace.
+/// Why a text is not read as a trace or a replay.
 #[derive(Clone, Copy, Debug, PartialEq, Eq)]
 pub enum TraceError {
     /// This line is bad, and none before it is. The number counts all lines from 1.
@@ -36,7 +36,7 @@ impl fmt::Display for TraceError {
     fn fmt<W: fmt::Write>(&self, f: &mut fmt::Formatter<W>) -> fmt::Result {
         match self {
             TraceError::BadLine { number } => write!(f, "bad line {number}"),
-            TraceError::Memory => f.write_str("not enough memory for the trace"),
+            TraceError::Memory => f.write_str("not enough memory for the lines"),
         }
     }
 }
@@ -49,16 +49,13 @@ pub fn read_trace(alloc: Global, text: &[u8], callers: u32) -> Result<Trace, Tra
     ensures fit { IfOk result (AllByRecursion (IsLineFor callers)) }
 {
     let mut trace = with_room_for(alloc, text)?;
-    let mut rest = text;
-    let mut number: u64 = 0;
-    while !rest.is_empty() {
-        let (line, more) = first_line(rest);
-        number += 1;
+    let mut lines = TextLines::of(text);
+    while let Some(line) = lines.next_line() {
         let Some(said) = read_trace_line(line, callers) else {
+            let number = lines.number();
             return Err(TraceError::BadLine { number });
         };
         trace.push(said)?;
-        rest = more;
     }
     Ok(trace)
 }
@@ -74,17 +71,4 @@ fn with_room_for(alloc: Global, text: &[u8]) -> Result<Trace, AllocError>
     let lines = newlines.min(text.len() / 6) + 1;
     let words = lines.saturating_mul(4).min(text.len() / 4 + 1);
     Trace::with_room(alloc, lines, words)
-}
-
-/// The first line of a text, without its newline, and what follows it.
-fn first_line(text: &[u8]) -> (&[u8], &[u8])
-    requires { 0 < length text.now }
-    ensures cuts { CutsLine text.now result.0.now result.1.now }
-    ensures shorter { length result.1.now < length text.now }
-{
-    let (line, rest) = text.split_at(line_len(text));
-    match rest {
-        [_, more @ ..] => (line, more),
-        _ => (line, rest),
-    }
 }

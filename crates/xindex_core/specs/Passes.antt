@@ -88,6 +88,10 @@ IsNoteOf i note = board.IsNoteOf i.board note
 abbrev pub part_kept_by : Keeper → ℕ
 part_kept_by keeper = keeper.part
 
+-- the number of the keeper's hand
+abbrev pub number_of_keeper : Keeper → ℕ
+number_of_keeper keeper = keeper.hand.number
+
 -- the keeper is the one of its part of the index, and its hand has made no step yet
 pub record IsKeeperOf (i : Index) (keeper : Keeper) : Type 0 where
   pub of : IsHandOf i.board keeper.hand

@@ -1,4 +1,4 @@
-//! Passes tell each other what they know.
+//! Passes tell each other, and keepers, what they know.
 ghost use Rattle.std.specs.Prelude.{◌≡◌};
 ghost use Rattle.index_rule.specs.Notes.{known_of};
 ghost use Rattle.xindex_core.specs.Notes.{HeedsNews, StaysAs};
@@ -9,7 +9,7 @@ use crate::pass::Pass;
 use index_rule::Note;
 
 impl Pass {
-    /// A note of what the pass knows, for any other pass of the index. The pass stays as it is.
+    /// A note of what the pass knows, for any other pass or keeper of the index. The pass stays as it is.
     #[inline]
     pub fn tell(&mut self, index: &Index) -> Note
         requires { IsPassOf index.now self.old }

@@ -8,7 +8,8 @@ use Rattle.rand_pcg.specs.Lcg.{Lcg}
 use Rattle.rand_pcg.specs.Pcg.{pcg32}
 use Rattle.trace_text.specs.declared.lines.Line.{Line}
 use Rattle.trace_text.specs.Text.{headed}
-use Rattle.trace_text.specs.Traces.{HasLines, is_told, IsTrace}
+use Rattle.trace_text.specs.TextLines.{HasLines}
+use Rattle.trace_text.specs.Traces.{is_told, IsTrace}
 use Rattle.trace_text.specs.Lines.{Says}
 use Rattle.trace_text.specs.Laws.{WritesLine}
 use Rattle.trace_text.proofs.WrittenLaws.{both_have, written_is_read}

@@ -6,7 +6,7 @@ use Rattle.word_layout.specs.Layout.{bounds_of, limits_of}
 use Rattle.index_rule.specs.declared.hand.Hand.{Hand}
 use Rattle.index_rule.specs.Hands.{opening_of}
 use Rattle.index_rule.specs.Opened.{AreNewHands}
-use Rattle.index_rule.proofs.OneGroups.{one_group_each, rows_fit}
+use Rattle.index_tests.proofs.OneGroups.{one_group_each, rows_fit}
 use Rattle.index_tests.proofs.boards.opened.Goals as goal
 
 pub open-requires-clause-rising : goal.open-requires-clause-rising

@@ -1,7 +1,7 @@
 use Rattle.std.proofs.Common.{◌*◌, ◌≤◌, length, subst, sym}
 use Rattle.rebuild_plan.specs.Plan.{fill_limit}
 use Rattle.word_layout.specs.declared.limits.Limits.{Limits}
-use Rattle.index_rule.proofs.OneGroups.{rows_fit}
+use Rattle.index_tests.proofs.OneGroups.{rows_fit}
 use Rattle.index_tests.proofs.boards.words_of.Goals as goal
 
 pub open-requires-clause-fits : goal.open-requires-clause-fits

@@ -1,9 +1,11 @@
 use Rattle.std.proofs.Common.{length}
-use Rattle.trace_text.proofs.TraceLaws.{HasRead}
+use Rattle.trace_text.specs.Lines.{Says}
+use Rattle.trace_text.specs.Traces.{is_told}
+use Rattle.trace_text.proofs.CuttingLaws.{HasRead}
 use Rattle.trace_text.proofs.traces.read_trace.Given as goal
 
-abbrev pub invariant-loop-rest : goal.invariant-loop-rest
-invariant-loop-rest l = HasRead l.callers l.text l.rest l.number l.trace
+abbrev pub invariant-loop-line : goal.invariant-loop-line
+invariant-loop-line l = HasRead (Says l.callers) is_told l.text l.lines l.trace
 
-abbrev pub decreases-loop-rest : goal.decreases-loop-rest
-decreases-loop-rest l = length l.rest
+abbrev pub decreases-loop-line : goal.decreases-loop-line
+decreases-loop-line l = length l.lines.rest

@@ -12,10 +12,10 @@ use Rattle.word_layout.specs.Shape.{Shape, first_group_of}
 use Rattle.word_layout.proofs.PartGroups.{part_with-within}
 use Rattle.index_machine.specs.declared.opening.Opening.{Opening}
 use Rattle.index_machine.specs.OpeningPlan.{FitsTable, keys_for, part_keys, planned_count}
-use Rattle.index_machine.specs.OpeningRows.{opening_group}
+use Rattle.index_machine.specs.Keepers.{IsPart}
+use Rattle.index_machine.specs.OpeningRows.{opening_count, opening_group}
 use Rattle.index_machine.specs.Words.{limits, shape}
 use Rattle.index_machine.proofs.OpeningPlan.{number_among, number_of, opening_group-is, row_of}
-use Rattle.index_rule.specs.OneGroups.{HasOneGroupEach}
 
 -- ---- a few rows ----
 
@@ -51,17 +51,15 @@ rows_fit l rows few part is_part =
 
 -- ---- tables with one group in each part ----
 
+-- the table was opened with one group in each part
+abbrev pub HasOneGroupEach : Opening → Type 0
+HasOneGroupEach o = (part : ℕ) → IsPart o part → opening_count o part ≡ 1
+
 -- one that is opened with a few rows is such a table
 pub one_group_each : (o : Opening) → length o.rows ≤ fill_limit (limits o).group_size → HasOneGroupEach o
 one_group_each o few part is_part =
     let most = count_most (shape o) o.rows 1 part o.layout.kept.least_group_size (omega arith) (omega (arith, few)) in
     omega (arith, most)
-
--- and so is one that is opened empty
-pub empty_one_group_each : (o : Opening) → o.rows ≡ [] → HasOneGroupEach o
-empty_one_group_each o empty =
-    let none : length o.rows ≡ 0 = ap length empty in
-    one_group_each o (omega arith)
 
 -- the one group answers for all keys of its part
 pub group_of_part : (o : Opening) → HasOneGroupEach o → (k : ℕ) → k ≤ greatest_key →
